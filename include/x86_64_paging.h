@@ -107,10 +107,10 @@
  * the spaces then keeps the others: below shared entries they see what it did, elsewhere they stay
  * as they were, and all fit together again. This is proved of the calls of the model (spaces_stay),
  * as long as the root's shared entries stay what they are, and which calls leave them is proved,
- * too (calls_keep_root_entries). Of x64_prepare of larger pages than 4 KiB, which is none of these,
- * and of splits and joins (x86_64_paging_live.h) it is tested. Calls on spaces refuse everything
- * else: they return X64_SHARED_ENTRY, and nothing has changed, but for the pages that
- * x64_space_map_list mapped before. That they do so is tested.
+ * too (calls_keep_root_entries). Of what is none of these it is tested: x64_prepare of larger pages
+ * than 4 KiB, x64_take_range and x64_change_range, and splits and joins (x86_64_paging_live.h).
+ * Calls on spaces refuse everything else: they return X64_SHARED_ENTRY, and nothing has changed,
+ * but for the pages that x64_space_map_list mapped before. That they do so is tested.
  *
  *   x64_space_map, x64_space_map_with, x64_space_map_list, x64_space_prepare
  *                              if a shared entry above the page is 0, or lacks a parent flag
@@ -155,6 +155,8 @@
  *   x64_unmap_range           X64_OK, X64_MORE  each page that was looked at, by an INVLPG of its
  *                                               own
  *   x64_update_flags_range    X64_OK            each page, by an INVLPG of its own
+ *   x64_take_range,           any               each page that was written to `pages`: what
+ *   x64_change_range                            x64_flush_between tells of its word and the new one
  *   x64_set_table_flags       X64_OK            everything, global pages too: a change of CR4.PGE,
  *                                               or INVPCID of everything
  *   x64_clean_up              X64_OK            tables: any INVLPG, or a load of CR3 with bit 63
@@ -231,7 +233,9 @@
  * Each function is proved to do what the model's call does (a refused x64_map does nothing), so the
  * laws are about these calls. x64_prepare of a page of 4 KiB leaves what a call leaves that maps
  * the page to frame 0 without flags, and so writes 0 (small_preparations_are_steps in
- * crates/x86_64_live). For larger pages it is none of these calls.
+ * crates/x86_64_live). For larger pages it is none of these calls. x64_take_range and
+ * x64_change_range leave what exchanges of the entries of their pages leave (ExchangesPages there),
+ * whose law is at x64_flush_between.
  *
  *   flushed_calls_leave_no_stale_item (crates/x86_64/src/laws.rt)
  *       Calls on one root, each with its flush, which may be late: afterwards each access goes
@@ -278,10 +282,10 @@
  *    x64_clean_up touches all entries in its range, and x64_give_up_space those of the root, and
  *    both free tables.
  * 5. Processors mark entries at any moment. What they set is lost only by calls that read an entry
- *    and then write it: x64_unmap, x64_update_flags, their ranges, x64_set_table_flags, maps and
- *    x64_prepare if they add parent flags, and x64_access with mark. The last one may also put back
- *    an entry that a guest took away in between. Exchanges lose nothing: a mark is in the entry, or
- *    an exchange returned it.
+ *    and then write it: x64_unmap, x64_update_flags, their ranges, x64_take_range,
+ *    x64_change_range, x64_set_table_flags, maps and x64_prepare if they add parent flags, and
+ *    x64_access with mark. The last one may also put back an entry that a guest took away in
+ *    between. Exchanges lose nothing: a mark is in the entry, or an exchange returned it.
  * 6. Calls that only read tables may run at the same time: they write nothing but their out
  *    parameters and marks. Beside exchanges of words they may load a word twice, and meet two:
  *    x64_entries_live and x64_access_live load each word once. Tests of validity want tables that
@@ -300,7 +304,10 @@
  *
  * Proved is what the functions return and write that this file only declares, as their descriptions
  * say it: the raw calls, x64_flush_after and x64_flush_between. The contract of the function of the
- * same name in crates/x86_64_c/src carries it. The laws named above are theorems of these names.
+ * same name in crates/x86_64_c/src carries it. Those of x64_list_range, x64_take_range and
+ * x64_change_range say it by pages_between and ExchangesPages, which
+ * crates/x86_64_live/specs/PageRanges.antt defines. The laws named above are theorems of these
+ * names.
  *
  * Not proved is this file: the prover does not read it. tools/c_header compares it with the source:
  * the functions with their parameters and results, the fields of each struct with their types and
@@ -555,6 +562,13 @@ typedef struct x64_mapping {
     bool execute;   /* no entry on the way has X64_NO_EXECUTE */
 } x64_mapping;
 
+/* A page of a range, and what its entry is or was, present or not. */
+typedef struct x64_taken {
+    uint64_t page; /* its first address */
+    uint64_t size; /* its size in bytes, one of the three */
+    uint64_t word; /* the word of its entry, with its frame, flags and marks */
+} x64_taken;
+
 /* A page. */
 typedef struct x64_page {
     uint64_t start; /* its first address: canonical, and a multiple of the size */
@@ -637,7 +651,8 @@ X64_NODISCARD
 static inline uint32_t x64_space_is_valid(const x64_space *space, bool *marks, size_t mark_count);
 
 /*
- * Looking up. All but x64_space_translate take any tables, whatever they hold.
+ * Looking up. All but x64_space_translate and x64_space_list_range take any tables, whatever they
+ * hold.
  */
 
 /* x64_walk: where the processor arrives from an address, and with which rights. Returns X64_OK;
@@ -670,6 +685,16 @@ X64_NODISCARD
 static inline uint32_t x64_space_mappings(const x64_space *space, uint64_t from,
                                           x64_mapping *mappings, size_t capacity, size_t *count,
                                           uint64_t *next);
+
+/* x64_list_range: lists the pages of all sizes, from the page of 4 KiB at `first` to the one at
+ * `last`, with the words of their entries, whether they have X64_PRESENT or not. Returns X64_OK if
+ * these are all; X64_MORE if the array is full, and a call with first = *next goes on;
+ * X64_PARENT_ENTRY_HUGE_PAGE if a larger page, in which *next is, is only partly in the range;
+ * X64_BAD_PAGE. */
+X64_NODISCARD
+static inline uint32_t x64_space_list_range(const x64_space *space, uint64_t first, uint64_t last,
+                                            x64_taken *pages, size_t capacity, size_t *count,
+                                            uint64_t *next);
 
 /*
  * Maps. They take free frames from the pool for tables that are missing: at most levels - 1 for a
@@ -761,6 +786,21 @@ X64_NODISCARD
 static inline uint32_t x64_space_update_flags_range(const x64_space *space, uint64_t first_page,
                                                     uint64_t size, uint64_t count, uint64_t flags,
                                                     uint64_t *changed);
+
+/* x64_take_range: the entries of the pages that x64_space_list_range would write become 0, and
+ * `pages` gets them as they were, with their frames, flags and marks. Returns what that returns. */
+X64_NODISCARD
+static inline uint32_t x64_space_take_range(const x64_space *space, uint64_t first, uint64_t last,
+                                            x64_taken *pages, size_t capacity, size_t *count,
+                                            uint64_t *next);
+
+/* x64_change_range: of the same pages, those that have X64_PRESENT keep the flags in `keep` and get
+ * those in `set`, and `pages` gets them as they were. Returns what x64_space_list_range returns;
+ * X64_NOT_ALLOWED if `keep` lacks X64_HUGE_PAGE or a bit of the address, or `set` has one. */
+X64_NODISCARD
+static inline uint32_t x64_space_change_range(const x64_space *space, uint64_t first, uint64_t last,
+                                              uint64_t keep, uint64_t set, x64_taken *pages,
+                                              size_t capacity, size_t *count, uint64_t *next);
 
 /*
  * Tables
@@ -1230,6 +1270,63 @@ uint32_t x64_update_flags_range(const x64_hierarchy *hierarchy, x64_table *table
                                 uint64_t flags, uint64_t *changed);
 
 /*
+ * Lists the pages of a range with the words of their entries: all pages from the page of 4 KiB that
+ * starts at `first` to the one that starts at `last`, of all three sizes, with X64_PRESENT or
+ * without it, in ascending order of addresses. A page is what has an entry that isn't 0 and names
+ * no table. At most `capacity` of them are written to `pages`, and their number to *count. A
+ * missing table is passed over by one look. The range may cross the gap of the address space. If
+ * `last` comes before `first`, it is empty.
+ *
+ * Condition: the hierarchy is valid (x64_is_valid).
+ *
+ * Returns X64_OK if these are all; then *next isn't written. Or one of these; the first two also
+ * write `pages`, *count and *next:
+ *   X64_MORE                     if the array is full and there are more: a call with
+ *                                first = *next goes on
+ *   X64_PARENT_ENTRY_HUGE_PAGE   if a page of 2 MiB or 1 GiB is only partly in the range: all
+ *                                before it are written, and *next is the first address of the
+ *                                range in it. Split it and go on there, or begin at its start
+ *   X64_BAD_PAGE                 if `first` or `last` isn't a canonical multiple of 4 KiB
+ */
+X64_NODISCARD
+uint32_t x64_list_range(const x64_hierarchy *hierarchy, const x64_table *tables, size_t table_count,
+                        uint64_t first, uint64_t last, x64_taken *pages, size_t capacity,
+                        size_t *count, uint64_t *next);
+
+/*
+ * Takes the pages of a range away: those that x64_list_range would write, which it writes as they
+ * were, and their entries become 0. No table is freed. Each page whose word had X64_PRESENT wants
+ * an INVLPG of its own, as x64_flush_between tells of its word and 0.
+ *
+ * It reads a word and then writes it: a mark that a processor sets in between is lost. Where that
+ * matters, as for pages that a running program may write to, use x64_space_take_range_live
+ * in x86_64_paging_live.h.
+ *
+ * Condition: the hierarchy is valid (x64_is_valid). Returns what x64_list_range returns.
+ */
+X64_NODISCARD
+uint32_t x64_take_range(const x64_hierarchy *hierarchy, x64_table *tables, size_t table_count,
+                        uint64_t first, uint64_t last, x64_taken *pages, size_t capacity,
+                        size_t *count, uint64_t *next);
+
+/*
+ * Changes the flags of the pages of a range that have X64_PRESENT: their words keep the bits that
+ * are in `keep`, and get those that are in `set`. The pages are written to `pages` with the words
+ * that they had, as x64_list_range writes them. Pages without X64_PRESENT are passed over, also a
+ * larger one that is only partly in the range. What to flush of each page x64_flush_between tells
+ * of its two words. As x64_take_range, it reads a word and then writes it.
+ *
+ * Condition: the hierarchy is valid (x64_is_valid).
+ *
+ * Returns what x64_list_range returns, or X64_NOT_ALLOWED if `keep` lacks X64_HUGE_PAGE or one of
+ * the bits 12 to 51, or `set` has one of these; then nothing has changed.
+ */
+X64_NODISCARD
+uint32_t x64_change_range(const x64_hierarchy *hierarchy, x64_table *tables, size_t table_count,
+                          uint64_t first, uint64_t last, uint64_t keep, uint64_t set,
+                          x64_taken *pages, size_t capacity, size_t *count, uint64_t *next);
+
+/*
  * Sets the flags of the entry on the way to a page at a level from 2 to hierarchy->levels. They
  * apply to all pages below the entry: without X64_PRESENT the processor reaches none of them.
  *
@@ -1494,6 +1591,14 @@ static inline uint32_t x64_space_mappings(const x64_space *space, uint64_t from,
                         count, next);
 }
 
+static inline uint32_t x64_space_list_range(const x64_space *space, uint64_t first, uint64_t last,
+                                            x64_taken *pages, size_t capacity, size_t *count,
+                                            uint64_t *next) {
+    x64_hierarchy hierarchy = x64_space_hierarchy(space);
+    return x64_list_range(&hierarchy, space->tables, space->table_count, first, last, pages,
+                          capacity, count, next);
+}
+
 static inline uint32_t x64_space_map(const x64_space *space, x64_pool *pool, uint64_t page,
                                      uint64_t size, uint64_t frame, uint64_t flags) {
     x64_map_request request = x64_map_request_of(page, size, frame, flags);
@@ -1579,6 +1684,22 @@ static inline uint32_t x64_space_update_flags_range(const x64_space *space, uint
     x64_page first = x64_page_of(first_page, size);
     return x64_update_flags_range(&hierarchy, space->tables, space->table_count, &first, count,
                                   flags, changed);
+}
+
+static inline uint32_t x64_space_take_range(const x64_space *space, uint64_t first, uint64_t last,
+                                            x64_taken *pages, size_t capacity, size_t *count,
+                                            uint64_t *next) {
+    x64_hierarchy hierarchy = x64_space_hierarchy(space);
+    return x64_take_range(&hierarchy, space->tables, space->table_count, first, last, pages,
+                          capacity, count, next);
+}
+
+static inline uint32_t x64_space_change_range(const x64_space *space, uint64_t first, uint64_t last,
+                                              uint64_t keep, uint64_t set, x64_taken *pages,
+                                              size_t capacity, size_t *count, uint64_t *next) {
+    x64_hierarchy hierarchy = x64_space_hierarchy(space);
+    return x64_change_range(&hierarchy, space->tables, space->table_count, first, last, keep, set,
+                            pages, capacity, count, next);
 }
 
 static inline uint32_t x64_space_clean_up(const x64_space *space, x64_pool *pool,

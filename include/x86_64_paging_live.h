@@ -4,11 +4,11 @@
  * gcc's __atomic functions, as gcc and clang do.
  *
  * A processor sets X64_ACCESSED and X64_DIRTY in a present entry at any moment. Whoever reads a
- * word, and then writes another one, loses what was set in between: x64_space_unmap and
- * x64_space_update_flags do, and x64_space_access with mark does it to a guest. The functions here
- * put a word in the place of another one by a single locked instruction, and return the one that
- * was there. So no mark is lost: it is in the entry now, or in a word that one of these functions
- * returned since.
+ * word, and then writes another one, loses what was set in between: x64_space_unmap,
+ * x64_space_update_flags and x64_space_take_range do, and x64_space_access with mark does it to a
+ * guest. The functions here put a word in the place of another one by a single locked instruction,
+ * and return the one that was there. So no mark is lost: it is in the entry now, or in a word that
+ * one of these functions returned since.
  *
  * WHICH WORDS ARE YOURS
  *
@@ -374,19 +374,13 @@ static inline uint32_t x64_space_change_page(const x64_space *space, uint64_t pa
     return status;
 }
 
-/* A page that was taken away. */
-typedef struct x64_taken {
-    uint64_t page; /* its first address */
-    uint64_t size; /* its size in bytes */
-    uint64_t word; /* what its entry was, with its marks, X64_PRESENT or not */
-} x64_taken;
-
 /*
- * Takes away all pages from the page of 4 KiB that starts at `first` to the one that starts at
- * `last`, of all sizes, present or not, in order, each by x64_space_exchange_entry. Writes them to
- * `taken` from its start on, and their number to *count. A missing table is passed over by one
- * look. No table is freed. An entry that names a table but lacks X64_PRESENT is passed over, with
- * all that is below it. Each page whose word had X64_PRESENT wants an INVLPG of its own.
+ * Does what x64_space_take_range does, but each page is taken away by x64_space_exchange_entry: so
+ * no mark that a processor sets is lost, and it may run beside other finds and changes. It differs
+ * in two more things: an entry that names a table but lacks X64_PRESENT is passed over, with all
+ * that is below it; and `first` and `last` lie in one half of the address space. It walks down from
+ * the root for each page, and isn't proved. Each page whose word had X64_PRESENT wants an INVLPG of
+ * its own.
  *
  * Condition: that of x64_space_find_entry. If `last` comes before `first`, nothing is taken.
  *
@@ -402,9 +396,9 @@ typedef struct x64_taken {
  * X64_BAD_ statuses write nothing, and only X64_MORE and X64_PARENT_ENTRY_HUGE_PAGE write *next.
  */
 X64_NODISCARD
-static inline uint32_t x64_space_take_range(const x64_space *space, uint64_t first, uint64_t last,
-                                      x64_taken *taken, size_t capacity, size_t *count,
-                                      uint64_t *next) {
+static inline uint32_t x64_space_take_range_live(const x64_space *space, uint64_t first,
+                                                 uint64_t last, x64_taken *taken, size_t capacity,
+                                                 size_t *count, uint64_t *next) {
     x64_entry entry;
     uint32_t status = x64_space_find_entry(space, first, &entry);
     if (status == X64_BAD_LEVELS || status == X64_BAD_ROOT)

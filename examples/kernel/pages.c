@@ -71,7 +71,7 @@ size_t take_pages(const x64_space *space, uint64_t start, uint64_t end) {
     uint64_t next;
     size_t count = 0;
     uint32_t due = X64_FLUSH_NOTHING;
-    check("x64_space_take_range", x64_space_take_range(space, start, end - X64_SIZE_4KIB, taken, MOST_PAGES, &count, &next));
+    check("x64_space_take_range_live", x64_space_take_range_live(space, start, end - X64_SIZE_4KIB, taken, MOST_PAGES, &count, &next));
     for (size_t k = 0; k < count; k++) {
         uint32_t more = x64_flush_between(1, taken[k].word, 0);
         due = due < more ? more : due;

@@ -24,6 +24,7 @@ struct memory {
     x64_entry entries[X64_MOST_LEVELS];
     x64_translation translation;
     x64_mapping mappings[LISTED];
+    x64_taken pages[LISTED];
     x64_outcome outcome;
     uint64_t frames[LISTED];
     uint64_t word;
@@ -156,6 +157,8 @@ static void try_reads(void) {
     SAME(X64_OK, x64_space_translate(&space, 0x1234, &a.translation), x64_translate(&hierarchy, TABLES_OF(b), 0x1234, &b.translation));
     SAME(X64_MORE, x64_space_mappings(&space, 0, a.mappings, LISTED, &a.count, &a.word),
          x64_mappings(&hierarchy, TABLES_OF(b), 0, b.mappings, LISTED, &b.count, &b.word));
+    SAME(X64_MORE, x64_space_list_range(&space, 0x1000, 0x20000, a.pages, LISTED, &a.count, &a.word),
+         x64_list_range(&hierarchy, TABLES_OF(b), 0x1000, 0x20000, b.pages, LISTED, &b.count, &b.word));
     SAME(X64_OK, x64_space_is_valid(&space, a.marks, TABLES), x64_is_valid(&hierarchy, TABLES_OF(b), b.marks, TABLES));
     SAME(X64_OK, x64_space_fits(&space, &pool, a.marks, TABLES),
          x64_spaces_fit(FIRST, space.levels, TABLES_OF(b), &hierarchy.root, 1, 0, 0, POOL_OF(b), free_count, b.marks, TABLES));
@@ -173,6 +176,12 @@ static void try_changes(void) {
          x64_update_flags_range(&hierarchy, TABLES_OF(b), &first, 3, X64_PRESENT, &b.word));
     SAME(X64_OK, x64_space_set_table_flags(&space, 0x1000, X64_SIZE_4KIB, 2, X64_PRESENT),
          x64_set_table_flags(&hierarchy, TABLES_OF(b), &small, 2, X64_PRESENT));
+    SAME(X64_MORE, x64_space_change_range(&space, 0x10000, 0x20000, ~X64_WRITABLE, X64_DIRTY, a.pages, 1, &a.count, &a.word),
+         x64_change_range(&hierarchy, TABLES_OF(b), 0x10000, 0x20000, ~X64_WRITABLE, X64_DIRTY, b.pages, 1, &b.count, &b.word));
+    SAME(X64_NOT_ALLOWED, x64_space_change_range(&space, 0x10000, 0x20000, 0, 0, a.pages, 1, &a.count, &a.word),
+         x64_change_range(&hierarchy, TABLES_OF(b), 0x10000, 0x20000, 0, 0, b.pages, 1, &b.count, &b.word));
+    SAME(X64_MORE, x64_space_take_range(&space, 0x10000, 0x20000, a.pages, 1, &a.count, &a.word),
+         x64_take_range(&hierarchy, TABLES_OF(b), 0x10000, 0x20000, b.pages, 1, &b.count, &b.word));
     SAME(X64_OK, x64_space_unmap(&space, 0x1000, X64_SIZE_4KIB, &a.word), x64_unmap(&hierarchy, TABLES_OF(b), &small, &b.word));
     SAME(X64_MORE, x64_space_unmap_range(&space, 0x10000, X64_SIZE_4KIB, 4, a.frames, LISTED, &a.count, &a.word),
          x64_unmap_range(&hierarchy, TABLES_OF(b), &first, 4, b.frames, LISTED, &b.count, &b.word));
@@ -225,6 +234,8 @@ static void try_wrong(uint32_t wanted, uint32_t wanted_of_fits) {
     SAME(wanted, x64_space_translate(&space, 0x1234, &a.translation), x64_translate(&hierarchy, TABLES_OF(b), 0x1234, &b.translation));
     SAME(wanted, x64_space_mappings(&space, 0, a.mappings, LISTED, &a.count, &a.word),
          x64_mappings(&hierarchy, TABLES_OF(b), 0, b.mappings, LISTED, &b.count, &b.word));
+    SAME(wanted, x64_space_list_range(&space, 0x1000, 0x2000, a.pages, LISTED, &a.count, &a.word),
+         x64_list_range(&hierarchy, TABLES_OF(b), 0x1000, 0x2000, b.pages, LISTED, &b.count, &b.word));
     SAME(wanted, x64_space_access(&space, &controls, &access, &a.outcome), x64_access(&hierarchy, TABLES_OF(b), &controls, &access, &b.outcome));
     SAME(wanted, x64_space_map(&space, &pool, 0x1000, X64_SIZE_4KIB, 0x5000, USUAL),
          x64_map(&hierarchy, TABLES_OF(b), POOL_OF(b), &free_count, &map));
@@ -242,6 +253,10 @@ static void try_wrong(uint32_t wanted, uint32_t wanted_of_fits) {
     SAME(wanted, x64_space_update_flags(&space, 0x1000, X64_SIZE_4KIB, USUAL), x64_update_flags(&hierarchy, TABLES_OF(b), &page, USUAL));
     SAME(wanted, x64_space_update_flags_range(&space, 0x1000, X64_SIZE_4KIB, 3, USUAL, &a.word),
          x64_update_flags_range(&hierarchy, TABLES_OF(b), &page, 3, USUAL, &b.word));
+    SAME(wanted, x64_space_take_range(&space, 0x1000, 0x2000, a.pages, LISTED, &a.count, &a.word),
+         x64_take_range(&hierarchy, TABLES_OF(b), 0x1000, 0x2000, b.pages, LISTED, &b.count, &b.word));
+    SAME(wanted, x64_space_change_range(&space, 0x1000, 0x2000, ~X64_WRITABLE, 0, a.pages, LISTED, &a.count, &a.word),
+         x64_change_range(&hierarchy, TABLES_OF(b), 0x1000, 0x2000, ~X64_WRITABLE, 0, b.pages, LISTED, &b.count, &b.word));
     SAME(wanted, x64_space_set_table_flags(&space, 0x1000, X64_SIZE_4KIB, 2, USUAL),
          x64_set_table_flags(&hierarchy, TABLES_OF(b), &page, 2, USUAL));
     SAME(wanted, x64_space_clean_up(&space, &pool, 0, last), x64_clean_up(&hierarchy, TABLES_OF(b), POOL_OF(b), &free_count, 0, last));

@@ -438,6 +438,25 @@ static enum verdict unmap_three(uint64_t flushed, uint64_t levels) {
     return worst(PAGE + 2 * 4096);
 }
 
+/* Takes a range away, of which one page isn't present, and flushes each page whose words want it, but for some of them. */
+static enum verdict take_three(uint64_t left, uint64_t levels) {
+    x64_taken taken[3];
+    uint64_t next;
+    size_t count;
+    start(levels);
+    for (uint64_t k = 0; k < 3; k++) {
+        map_page(PAGE + k * 4096);
+        use(PAGE + k * 4096);
+    }
+    wants("update_flags", x64_space_update_flags(&space, PAGE + 4096, X64_SIZE_4KIB, 0), X64_OK);
+    invlpg(PAGE + 4096);
+    wants("take_range", x64_space_take_range(&space, PAGE, PAGE + 2 * 4096, taken, 3, &count, &next), X64_OK);
+    for (size_t k = 0; k + left < count; k++)
+        if (x64_flush_between(1, taken[k].word, 0) == X64_FLUSH_PAGE)
+            invlpg(taken[k].page);
+    return worst(PAGE + 2 * 4096);
+}
+
 static void try_several_calls(uint64_t levels) {
     wants("two pages and the INVLPG of one", unmap_two(INVLPG, 1, levels), ASTRAY);
     wants("two pages and the INVLPG of each", unmap_two(INVLPG, 2, levels), AGREES);
@@ -445,6 +464,8 @@ static void try_several_calls(uint64_t levels) {
     wants("two pages and a flush of everything", unmap_two(EVERYTHING, 1, levels), AGREES);
     wants("a range without its last page", unmap_three(2, levels), ASTRAY);
     wants("a range", unmap_three(3, levels), AGREES);
+    wants("a range of words without its last page", take_three(1, levels), ASTRAY);
+    wants("a range of words", take_three(0, levels), AGREES);
 }
 
 /* ---- rows: large pages */

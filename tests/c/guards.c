@@ -308,7 +308,14 @@ static void try_words(const x64_space *space, uint64_t n) {
     WANTS(X64_OK, x64_space_map(space, &pools[0], page + 0x1ff000, X64_SIZE_4KIB, FRAME, USUAL)); /* index 511, as that of a shared entry */
     WANTS(X64_OK, x64_space_change_page(space, page + 0x1ff000, X64_SIZE_4KIB, ~X64_WRITABLE, 0, &old));
     WANTS(X64_OK, x64_space_take_page(space, page + 0x1ff000, X64_SIZE_4KIB, &old));
+    WANTS(X64_OK, x64_space_change_range(space, page, page, ~X64_WRITABLE, 0, taken, 2, &count, &next));
+    CHECK(count == 1 && taken[0].word == (0x7000 | USUAL));
+    WANTS(X64_OK, x64_space_list_range(space, page, page, taken, 2, &count, &next));
+    CHECK(count == 1 && taken[0].word == (0x7000 | X64_PRESENT));
     WANTS(X64_OK, x64_space_take_range(space, page, page, taken, 2, &count, &next));
+    CHECK(count == 1 && taken[0].word == (0x7000 | X64_PRESENT));
+    WANTS(X64_OK, x64_space_map(space, &pools[0], page, X64_SIZE_4KIB, 0x7000, USUAL));
+    WANTS(X64_OK, x64_space_take_range_live(space, page, page, taken, 2, &count, &next));
     CHECK(count == 1 && taken[0].word == (0x7000 | USUAL));
     CHECK(x64_space_entries_live(space, page_at(OWN, n), entries, &count) == X64_OK);
     WANTS(X64_OK, x64_space_change_entry(space, &entries[0], ~X64_USER_ACCESSIBLE, 0, &old));
@@ -358,7 +365,7 @@ static void try_ends(const x64_space *space) {
 
 /* ---- random calls */
 
-enum kind { MAP, RANGE, PREPARE, CLEAN_UP, TABLE_FLAGS, ACCESS, UNMAP, FLAGS, KINDS };
+enum kind { MAP, RANGE, PREPARE, CLEAN_UP, TABLE_FLAGS, ACCESS, UNMAP, FLAGS, TAKE, CHANGE, KINDS };
 static size_t made[KINDS], refused[KINDS], changes[KINDS];
 
 /* Returns some page, below an entry that is shared or not, used or not. */
@@ -389,7 +396,10 @@ static void make_call(enum kind kind, const x64_space *space, size_t pool) {
     const uint64_t flags = some_parents(), count = 1 + below(3), level = 2 + below(4), last = some_page(4096);
     x64_map_request request = request_of(page.start, page.size, USUAL, some_parents());
     x64_access_request access = {below(2) ? page.start + below(size) : page_at(UNMARKED, 0) + below(6 << 12), (uint32_t)below(3), below(2) != 0, true};
+    const uint64_t keep = below(8) ? ~X64_WRITABLE : ~X64_HUGE_PAGE;
     x64_outcome outcome;
+    x64_taken taken[2];
+    size_t taken_count = 0;
     uint64_t done = 0, *frames = copied.frames[pool];
     uint32_t status = X64_OK, raw = X64_OK;
     note();
@@ -415,9 +425,15 @@ static void make_call(enum kind kind, const x64_space *space, size_t pool) {
     } else if (kind == UNMAP) {
         status = x64_space_unmap(space, page.start, page.size, &done);
         raw = x64_unmap(&hierarchy, copied.tables, TABLES, &page, &done);
-    } else {
+    } else if (kind == FLAGS) {
         status = x64_space_update_flags(space, page.start, page.size, flags);
         raw = x64_update_flags(&hierarchy, copied.tables, TABLES, &page, flags);
+    } else if (kind == TAKE) {
+        status = x64_space_take_range(space, page.start, page.start + count * 4096, taken, 2, &taken_count, &done);
+        raw = x64_take_range(&hierarchy, copied.tables, TABLES, page.start, page.start + count * 4096, taken, 2, &taken_count, &done);
+    } else {
+        status = x64_space_change_range(space, page.start, last, keep, flags, taken, 2, &taken_count, &done);
+        raw = x64_change_range(&hierarchy, copied.tables, TABLES, page.start, last, keep, flags, taken, 2, &taken_count, &done);
     }
     bool is_refused = status == X64_SHARED_ENTRY, is_same = is_as_before();
     made[kind]++;
@@ -503,7 +519,7 @@ int main(int argc, char **argv) {
         bool is_tried = refused[kind] > 10 && (changes[kind] > 0 || kind == CLEAN_UP) && made[kind] > refused[kind];
         CHECK(kind >= UNMAP ? refused[kind] == 0 : count < 5000 || is_tried);
     }
-    static const char *const names[KINDS] = {"maps", "ranges", "preparations", "clean ups", "changes of tables", "accesses", "", ""};
+    static const char *const names[KINDS] = {"maps", "ranges", "preparations", "clean ups", "changes of tables", "accesses", "", "", "", ""};
     printf("guards: %zu checks, %zu faults; refused of random calls:", checked, failed);
     for (size_t kind = 0; kind < UNMAP; kind++)
         printf("%s %zu of %zu %s", kind > 0 ? "," : "", refused[kind], made[kind], names[kind]);

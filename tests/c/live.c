@@ -70,7 +70,7 @@ static void try_faulty(uint64_t levels) {
         CHECK(x64_space_take_page(&space, HEAP, X64_SIZE_4KIB, &old) == status);
         CHECK(x64_space_change_page(&space, HEAP, X64_SIZE_4KIB, 0, 0, &old) == status);
         count = 9;
-        CHECK(x64_space_take_range(&space, 0, HUGE, taken, RANGE, &count, &next) == status && count == (fault == NO_WAY ? 0 : 9));
+        CHECK(x64_space_take_range_live(&space, 0, HUGE, taken, RANGE, &count, &next) == status && count == (fault == NO_WAY ? 0 : 9));
         CHECK(x64_space_split(&space, &pool, LARGE, X64_SIZE_2MIB) == status);
         CHECK(x64_space_join(&space, HEAP, X64_SIZE_2MIB, 0x87, &frame) == status);
         CHECK(x64_access_live(&hierarchy, tables, TABLES, &controls, &access, &scratch, &arrival) == found);
@@ -170,25 +170,69 @@ static void try_ranges(uint64_t levels) {
     uint64_t next = 7, old, half = (UINT64_C(1) << (11 + 9 * levels)) - 4096;
     fill(levels);
     CHECK(x64_space_exchange_page(&space, HEAP + 0x3000, X64_SIZE_4KIB, SWAPPED, &old) == X64_OK);
-    CHECK(x64_space_take_range(&space, 1, half, taken, RANGE, &count, &next) == X64_BAD_PAGE);
-    CHECK(x64_space_take_range(&space, 0, half + 4096, taken, RANGE, &count, &next) == X64_BAD_PAGE);
-    CHECK(x64_space_take_range(&space, 0, LAST_PAGE, taken, RANGE, &count, &next) == X64_BAD_PAGE && count == 9 && next == 7);
-    CHECK(x64_space_take_range(&space, HUGE, 0, taken, RANGE, &count, &next) == X64_OK && count == 0 && next == 7);
-    CHECK(x64_space_take_range(&space, 0, HUGE + 4096, taken, 3, &count, &next) == X64_MORE && count == 3 && next == HEAP + 0x3000);
+    CHECK(x64_space_take_range_live(&space, 1, half, taken, RANGE, &count, &next) == X64_BAD_PAGE);
+    CHECK(x64_space_take_range_live(&space, 0, half + 4096, taken, RANGE, &count, &next) == X64_BAD_PAGE);
+    CHECK(x64_space_take_range_live(&space, 0, LAST_PAGE, taken, RANGE, &count, &next) == X64_BAD_PAGE && count == 9 && next == 7);
+    CHECK(x64_space_take_range_live(&space, HUGE, 0, taken, RANGE, &count, &next) == X64_OK && count == 0 && next == 7);
+    CHECK(x64_space_take_range_live(&space, 0, HUGE + 4096, taken, 3, &count, &next) == X64_MORE && count == 3 && next == HEAP + 0x3000);
     CHECK(taken[2].page == HEAP + 0x2000 && taken[2].size == X64_SIZE_4KIB && taken[2].word == ((SMALL_FRAMES + 0x2000) | USUAL));
-    CHECK(x64_space_take_range(&space, next, HUGE + 4096, taken, RANGE, &count, &next) == X64_PARENT_ENTRY_HUGE_PAGE);
+    CHECK(x64_space_take_range_live(&space, next, HUGE + 4096, taken, RANGE, &count, &next) == X64_PARENT_ENTRY_HUGE_PAGE);
     CHECK(count == PAGES - 3 + 1 && next == HUGE && taken[0].word == SWAPPED && taken[PAGES - 3].size == X64_SIZE_2MIB);
-    CHECK(x64_space_take_range(&space, HUGE + 4096, half, taken, RANGE, &count, &next) == X64_PARENT_ENTRY_HUGE_PAGE);
+    CHECK(x64_space_take_range_live(&space, HUGE + 4096, half, taken, RANGE, &count, &next) == X64_PARENT_ENTRY_HUGE_PAGE);
     CHECK(count == 0 && next == HUGE + 4096);
-    CHECK(x64_space_take_range(&space, 0, half, taken, RANGE, &count, &next) == X64_OK && count == 1 && taken[0].page == HUGE);
-    CHECK(next == HUGE + 4096 && x64_space_take_range(&space, 0, half, taken, 0, &count, &next) == X64_OK && count == 0);
+    CHECK(x64_space_take_range_live(&space, 0, half, taken, RANGE, &count, &next) == X64_OK && count == 1 && taken[0].page == HUGE);
+    CHECK(next == HUGE + 4096 && x64_space_take_range_live(&space, 0, half, taken, 0, &count, &next) == X64_OK && count == 0);
     CHECK(x64_space_map(&space, &pool, LAST_PAGE, X64_SIZE_4KIB, 0x5000, USUAL) == X64_OK);
-    CHECK(x64_space_take_range(&space, UINT64_MAX << (11 + 9 * levels), LAST_PAGE, taken, RANGE, &count, &next) == X64_OK);
+    CHECK(x64_space_take_range_live(&space, UINT64_MAX << (11 + 9 * levels), LAST_PAGE, taken, RANGE, &count, &next) == X64_OK);
     CHECK(count == 1 && taken[0].page == LAST_PAGE && taken[0].word == (0x5000 | USUAL));
     CHECK(x64_space_clean_up(&space, &pool, 0, LAST_PAGE) == X64_OK && pool.free_count == TABLES - 1 && fits());
 }
 
-/* A table that lacks X64_PRESENT is passed over, with its pages. */
+/* The ranges of the library, by their inline functions: each status, and what they write. */
+static void try_proved_ranges(uint64_t levels) {
+    const uint64_t address = UINT64_C(0x000ffffffffff000), half = (UINT64_C(1) << (11 + 9 * levels)) - 4096;
+    const uint64_t keep = ~X64_WRITABLE, large = UINT64_C(0x40000000) | USUAL | X64_HUGE_PAGE;
+    x64_taken pages[RANGE];
+    size_t count = 9;
+    uint64_t next = 7, old;
+    fill(levels);
+    CHECK(x64_space_exchange_page(&space, HEAP + 0x3000, X64_SIZE_4KIB, SWAPPED, &old) == X64_OK);
+    CHECK(x64_space_list_range(&space, 1, half, pages, RANGE, &count, &next) == X64_BAD_PAGE);
+    CHECK(x64_space_take_range(&space, 0, half + 4096, pages, RANGE, &count, &next) == X64_BAD_PAGE);
+    CHECK(x64_space_change_range(&space, 0, 5, keep, 0, pages, RANGE, &count, &next) == X64_BAD_PAGE);
+    CHECK(x64_space_change_range(&space, 0, half, keep & ~address, 0, pages, RANGE, &count, &next) == X64_NOT_ALLOWED);
+    CHECK(x64_space_change_range(&space, 0, half, keep & ~X64_HUGE_PAGE, 0, pages, RANGE, &count, &next) == X64_NOT_ALLOWED);
+    CHECK(x64_space_change_range(&space, 0, half, keep, X64_HUGE_PAGE, pages, RANGE, &count, &next) == X64_NOT_ALLOWED);
+    CHECK(x64_space_change_range(&space, 0, half, keep, 0x1000, pages, RANGE, &count, &next) == X64_NOT_ALLOWED);
+    CHECK(count == 9 && next == 7);
+    CHECK(x64_space_list_range(&space, HUGE, 0, pages, RANGE, &count, &next) == X64_OK && count == 0 && next == 7);
+    memcpy(copies, tables, sizeof tables);
+    CHECK(x64_space_list_range(&space, 0, LAST_PAGE, pages, RANGE, &count, &next) == X64_OK && count == PAGES + 2 && next == 7);
+    CHECK(pages[3].page == HEAP + 0x3000 && pages[3].word == SWAPPED && pages[PAGES].size == X64_SIZE_2MIB);
+    CHECK(pages[PAGES + 1].page == HUGE && pages[PAGES + 1].size == X64_SIZE_1GIB && pages[PAGES + 1].word == large);
+    CHECK(x64_space_list_range(&space, 0, HUGE + 4096, pages, 3, &count, &next) == X64_MORE && count == 3 && next == HEAP + 0x3000);
+    CHECK(x64_space_list_range(&space, next, HUGE + 4096, pages, RANGE, &count, &next) == X64_PARENT_ENTRY_HUGE_PAGE && next == HUGE);
+    CHECK(count == PAGES - 3 + 1 && memcmp(copies, tables, sizeof tables) == 0);
+    CHECK(x64_space_change_range(&space, 0, HUGE - 4096, keep, X64_ACCESSED, pages, 1, &count, &next) == X64_MORE && count == 1);
+    CHECK(next == HEAP + 0x1000 && pages[0].word == (SMALL_FRAMES | USUAL));
+    CHECK(x64_space_change_range(&space, next, HUGE - 4096, keep, X64_ACCESSED, pages, RANGE, &count, &next) == X64_OK);
+    CHECK(count == PAGES - 2 + 1 && fits());
+    CHECK(x64_space_list_range(&space, HEAP, HEAP + 0x3000, pages, RANGE, &count, &next) == X64_OK && count == 4);
+    CHECK(pages[2].word == (((SMALL_FRAMES + 0x2000) | USUAL | X64_ACCESSED) & ~X64_WRITABLE) && pages[3].word == SWAPPED);
+    CHECK(x64_space_change_range(&space, HUGE + 4096, half, keep, 0, pages, RANGE, &count, &next) == X64_PARENT_ENTRY_HUGE_PAGE);
+    CHECK(count == 0 && next == HUGE + 4096);
+    CHECK(x64_space_take_range(&space, 0, HUGE + 4096, pages, 2, &count, &next) == X64_MORE && count == 2 && next == HEAP + 0x2000);
+    CHECK(x64_space_take_range(&space, next, HUGE + 4096, pages, RANGE, &count, &next) == X64_PARENT_ENTRY_HUGE_PAGE);
+    CHECK(count == PAGES - 2 + 1 && next == HUGE && pages[1].word == SWAPPED && pages[PAGES - 2].size == X64_SIZE_2MIB);
+    CHECK(x64_space_take_range(&space, 0, half, pages, RANGE, &count, &next) == X64_OK && count == 1 && pages[0].word == large);
+    CHECK(x64_space_map(&space, &pool, LAST_PAGE, X64_SIZE_4KIB, 0x5000, USUAL) == X64_OK);
+    CHECK(x64_space_take_range(&space, 0, LAST_PAGE, pages, RANGE, &count, &next) == X64_OK);
+    CHECK(count == 1 && pages[0].page == LAST_PAGE && pages[0].word == (0x5000 | USUAL));
+    CHECK(x64_space_list_range(&space, 0, LAST_PAGE, pages, RANGE, &count, &next) == X64_OK && count == 0);
+    CHECK(x64_space_clean_up(&space, &pool, 0, LAST_PAGE) == X64_OK && pool.free_count == TABLES - 1 && fits());
+}
+
+/* x64_space_take_range_live passes over a table that lacks X64_PRESENT, with its pages, which the library's ranges see. */
 static void try_hidden_table(uint64_t levels) {
     x64_taken taken[RANGE];
     x64_entry entry = {0, 0, 0, 0};
@@ -198,9 +242,10 @@ static void try_hidden_table(uint64_t levels) {
     CHECK(x64_space_find_page(&space, LARGE, X64_SIZE_2MIB, &entry) == X64_OK);
     entry.index--;
     CHECK(x64_space_change_entry(&space, &entry, ~X64_PRESENT, 0, &old) == X64_OK);
-    CHECK(x64_space_take_range(&space, 0, HUGE - 4096, taken, RANGE, &count, &next) == X64_OK && count == 1 && taken[0].page == LARGE);
+    CHECK(x64_space_list_range(&space, 0, HUGE - 4096, taken, RANGE, &count, &next) == X64_OK && count == PAGES + 1);
+    CHECK(x64_space_take_range_live(&space, 0, HUGE - 4096, taken, RANGE, &count, &next) == X64_OK && count == 1 && taken[0].page == LARGE);
     CHECK(x64_space_change_entry(&space, &entry, ~UINT64_C(0), X64_PRESENT, &old) == X64_OK);
-    CHECK(x64_space_take_range(&space, 0, HUGE - 4096, taken, RANGE, &count, &next) == X64_OK && count == PAGES && taken[0].page == HEAP);
+    CHECK(x64_space_take_range_live(&space, 0, HUGE - 4096, taken, RANGE, &count, &next) == X64_OK && count == PAGES && taken[0].page == HEAP);
 }
 
 /* ---- flushes */
@@ -650,6 +695,7 @@ int main(int argc, char **argv) {
         try_changes(levels);
         try_pages(levels);
         try_ranges(levels);
+        try_proved_ranges(levels);
         try_hidden_table(levels);
         try_second_pool(levels);
         try_split_refusals(levels);

@@ -98,7 +98,7 @@ static void change_live(struct marks *learned, uint64_t page) {
         x64_taken taken[2];
         size_t count = 0;
         uint64_t next;
-        CHECK(x64_space_take_range(&space, page & ~UINT64_C(0x1000), page | 0x1000, taken, 2, &count, &next) == X64_OK && count <= 2);
+        CHECK(x64_space_take_range_live(&space, page & ~UINT64_C(0x1000), page | 0x1000, taken, 2, &count, &next) == X64_OK && count <= 2);
         for (size_t k = 0; k < count; k++)
             add_marks(learned, taken[k].word);
     } else {

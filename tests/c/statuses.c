@@ -29,7 +29,7 @@ struct arguments {
     uint64_t capacity, free_count, null_pool;
     uint64_t mark_count, null_marks;
     uint64_t list_capacity, null_list, entry_capacity, null_entries;
-    uint64_t address, start, size, count, frame, flags, parent_flags, level, first_page, last_page;
+    uint64_t address, start, size, count, frame, flags, parent_flags, keep, level, first_page, last_page;
     uint64_t root_count, null_roots, second_root, shared_from, shared_to;
     uint64_t kind, user, mark, write_protect, no_execute, smep, smap, ac, physical_bits, no_1gib_pages, global_reserved;
     /* before the call the word at an index of a table gets these flags and the address of the table with a number */
@@ -76,6 +76,7 @@ struct world {
     x64_entry entries[READ];
     x64_translation translation;
     x64_mapping mappings[LISTED];
+    x64_taken pages[LISTED];
     size_t count;
     uint64_t next;
     uint64_t frame;
@@ -129,6 +130,7 @@ enum function {
     ENTRIES,
     TRANSLATE,
     MAPPINGS,
+    LIST_RANGE,
     IS_VALID,
     POOL_FITS,
     SPACES_FIT,
@@ -143,16 +145,18 @@ enum function {
     UNMAP_RANGE,
     UPDATE_FLAGS_RANGE,
     CLEAN_UP,
+    TAKE_RANGE,
+    CHANGE_RANGE,
     NEW_SPACE,
     GIVE_UP_SPACE,
     FUNCTIONS
 };
 
 static const char *const names[FUNCTIONS] = {
-    "x64_page_walk", "x64_walk",         "x64_entries",         "x64_translate", "x64_mappings",      "x64_is_valid",
-    "x64_pool_fits", "x64_spaces_fit",   "x64_access",          "x64_map",       "x64_map_as_mapper", "x64_prepare",
-    "x64_unmap",     "x64_update_flags", "x64_set_table_flags", "x64_map_range", "x64_unmap_range",   "x64_update_flags_range",
-    "x64_clean_up",  "x64_new_space",    "x64_give_up_space",
+    "x64_page_walk",          "x64_walk",      "x64_entries",      "x64_translate",       "x64_mappings",  "x64_list_range",
+    "x64_is_valid",           "x64_pool_fits", "x64_spaces_fit",   "x64_access",          "x64_map",       "x64_map_as_mapper",
+    "x64_prepare",            "x64_unmap",     "x64_update_flags", "x64_set_table_flags", "x64_map_range", "x64_unmap_range",
+    "x64_update_flags_range", "x64_clean_up",  "x64_take_range",   "x64_change_range",    "x64_new_space", "x64_give_up_space",
 };
 
 /* Returns the arguments that rows change. */
@@ -172,6 +176,7 @@ static struct arguments usual(uint64_t levels) {
         .frame = 0x9000,
         .flags = 0x3,
         .parent_flags = 0x3,
+        .keep = UINT64_MAX,
         .level = 4,
         .last_page = LAST_PAGE,
         .root_count = ROOTS,
@@ -195,8 +200,9 @@ static uint32_t call(enum function function, const struct arguments *a) {
     uint64_t *pool = a->null_pool ? NULL : world.pool;
     bool *marks = a->null_marks ? NULL : world.marks;
     x64_mapping *list = a->null_list ? NULL : world.mappings;
+    x64_taken *taken = a->null_list ? NULL : world.pages;
     uint64_t *roots = a->null_roots ? NULL : world.roots;
-    uint64_t from = a->shared_from, to = a->shared_to;
+    uint64_t from = a->shared_from, to = a->shared_to, start = a->first_page, last = a->last_page;
     uint64_t *frames = a->null_list ? NULL : world.frames;
     x64_page page = {.start = a->start, .size = a->size};
     x64_map_request request = {.page = page, .frame = a->frame, .flags = a->flags, .parent_flags = a->parent_flags};
@@ -216,6 +222,8 @@ static uint32_t call(enum function function, const struct arguments *a) {
         return x64_translate(h, tables, n, a->address, &world.translation);
     case MAPPINGS:
         return x64_mappings(h, tables, n, a->address, list, a->list_capacity, &world.count, &world.next);
+    case LIST_RANGE:
+        return x64_list_range(h, tables, n, start, last, taken, a->list_capacity, &world.count, &world.next);
     case IS_VALID:
         return x64_is_valid(h, tables, n, marks, a->mark_count);
     case POOL_FITS:
@@ -245,6 +253,10 @@ static uint32_t call(enum function function, const struct arguments *a) {
         return x64_update_flags_range(h, tables, n, &page, a->count, a->flags, &world.done);
     case CLEAN_UP:
         return x64_clean_up(h, tables, n, pool, a->capacity, &world.free_count, a->first_page, a->last_page);
+    case TAKE_RANGE:
+        return x64_take_range(h, tables, n, start, last, taken, a->list_capacity, &world.count, &world.next);
+    case CHANGE_RANGE:
+        return x64_change_range(h, tables, n, start, last, a->keep, a->flags, taken, a->list_capacity, &world.count, &world.next);
     case NEW_SPACE:
         return x64_new_space(h, tables, n, pool, a->capacity, &world.free_count, from, to, &world.root);
     case GIVE_UP_SPACE:
@@ -836,6 +848,57 @@ static const struct row update_flags_range[] = {
     ROW("a bad page before bad flags", X64_BAD_PAGE, SET(start, 1), SET(flags, 0x1000)),
 };
 
+/* Of ranges of pages of all sizes, whose words come back: how many pages, the first one with its word, and where the range goes on. These
+ * are tried with all three functions. */
+static const struct row word_ranges[] = {
+    ROW("nothing there", X64_OK, SET(first_page, MISSING)),
+    ROW("the last page before the first one", X64_OK, SET(first_page, LAST_PAGE), SET(last_page, 0)),
+    ROW("no array, and nothing there", X64_OK, SET(first_page, MISSING), SET(list_capacity, 0), SET(null_list, 1)),
+    WRITES("no array", X64_MORE, OUT(0, 0, 0, 0x1000), SET(list_capacity, 0), SET(null_list, 1)),
+    WRITES("from inside a larger page on", X64_PARENT_ENTRY_HUGE_PAGE, OUT(0, 0, 0, 0x201000), SET(first_page, 0x201000)),
+    WRITES("inside a larger page", X64_PARENT_ENTRY_HUGE_PAGE, OUT(0, 0, 0, 0x40001000), SET(first_page, 0x40001000),
+        SET(last_page, 0x40001000)),
+    ROW("a first page that is no multiple", X64_BAD_PAGE, SET(first_page, 1)),
+    ROW("a last page that is no multiple", X64_BAD_PAGE, SET(last_page, 0xfff)),
+    ROW("a first page that isn't canonical", X64_BAD_PAGE, SET(first_page, NOT_CANONICAL)),
+    ROW("a last page that isn't canonical", X64_BAD_PAGE, SET(last_page, NOT_CANONICAL)),
+    ROW("a last page that isn't canonical with four levels", X64_BAD_PAGE, SET(last_page, NOT_CANONICAL_4), SET(only, 4)),
+};
+
+static const struct row list_range[] = {
+    WRITES("all", X64_OK, OUT(LISTED, 0x1000, 0x5003, 0), USUAL),
+    WRITES("a page without PRESENT", X64_OK, OUT(1, 0x2000, 0x6002, 0), SET(first_page, 0x2000), SET(last_page, 0x2000)),
+    WRITES("an array for three", X64_MORE, OUT(3, 0x1000, 0x5003, 0x200000), SET(list_capacity, 3)),
+    WRITES("up to a part of a page", X64_PARENT_ENTRY_HUGE_PAGE, OUT(3, 0x1000, 0x5003, 0x200000), SET(last_page, 0x200000)),
+    WRITES("a part of a page without PRESENT", X64_PARENT_ENTRY_HUGE_PAGE, OUT(0, 0, 0, 0x601000), SET(first_page, 0x601000)),
+};
+
+static const struct row take_range[] = {
+    {"all", X64_OK, {USUAL}, LISTED, 0, 0, {LISTED, 0x1000, 0x5003, 0}},
+    {"a page without PRESENT", X64_OK, {SET(first_page, 0x2000), SET(last_page, 0x2000)}, 1, 0, 0, {1, 0x2000, 0x6002, 0}},
+    {"an array for three", X64_MORE, {SET(list_capacity, 3)}, 3, 0, 0, {3, 0x1000, 0x5003, 0x200000}},
+    {"up to a part of a page", X64_PARENT_ENTRY_HUGE_PAGE, {SET(last_page, 0x200000)}, 3, 0, 0, {3, 0x1000, 0x5003, 0x200000}},
+};
+
+#define READ_ONLY SET(keep, ~X64_WRITABLE), SET(flags, 0)
+static const struct row change_range[] = {
+    {"all present ones", X64_OK, {READ_ONLY}, MAPPED, 0, 0, {MAPPED, 0x1000, 0x5003, 0}},
+    {"all lose PRESENT", X64_OK, {SET(keep, ~X64_PRESENT), SET(flags, 0x2)}, MAPPED, 0, 0, {MAPPED, 0x1000, 0x5003, 0}},
+    WRITES("the flags that they have", X64_OK, OUT(MAPPED, 0x1000, 0x5003, 0), USUAL),
+    ROW("a page without PRESENT", X64_OK, SET(first_page, 0x2000), SET(last_page, 0x2000)),
+    ROW("a part of a page without PRESENT", X64_OK, SET(first_page, 0x601000), SET(last_page, 0x7ff000)),
+    {"an array for two", X64_MORE, {READ_ONLY, SET(list_capacity, 2)}, 2, 0, 0, {2, 0x1000, 0x5003, 0x200000}},
+    {"up to a part of a page", X64_PARENT_ENTRY_HUGE_PAGE, {READ_ONLY, SET(last_page, 0x200000)}, 2, 0, 0,
+        {2, 0x1000, 0x5003, 0x200000}},
+    ROW("HUGE_PAGE isn't kept", X64_NOT_ALLOWED, SET(keep, ~X64_HUGE_PAGE)),
+    ROW("the lowest bit of the address isn't kept", X64_NOT_ALLOWED, SET(keep, ~UINT64_C(0x1000))),
+    ROW("the highest bit of the address isn't kept", X64_NOT_ALLOWED, SET(keep, ~(UINT64_C(1) << 51))),
+    ROW("HUGE_PAGE is set", X64_NOT_ALLOWED, SET(flags, X64_HUGE_PAGE)),
+    ROW("an address is set", X64_NOT_ALLOWED, SET(flags, UINT64_C(1) << 51)),
+    ROW("no page, and an address is set", X64_NOT_ALLOWED, SET(first_page, LAST_PAGE), SET(last_page, 0), SET(flags, 0x1000)),
+    ROW("a bad page before bad masks", X64_BAD_PAGE, SET(first_page, 1), SET(keep, 0), SET(flags, 0x1000)),
+};
+
 /* The table that comes back last. */
 static const struct row clean_up[] = {
     {"all", X64_OK, {USUAL}, 1, 0, -1, {7}},
@@ -1002,6 +1065,16 @@ static void read_out(enum function function, uint64_t levels, uint64_t out[4]) {
         memcpy(world.mappings, before.mappings, world.count * sizeof *world.mappings);
         world.count = before.count;
         break;
+    case LIST_RANGE:
+    case TAKE_RANGE:
+    case CHANGE_RANGE:
+        out[0] = world.count, out[3] = world.next == before.next ? 0 : world.next;
+        if (world.count != 0)
+            out[1] = world.pages[0].page, out[2] = world.pages[0].word;
+        memcpy(world.pages, before.pages, world.count * sizeof *world.pages);
+        world.count = before.count;
+        world.next = before.next;
+        break;
     case ACCESS:
         out[0] = world.outcome.address, out[1] = world.outcome.code, out[2] = world.outcome.level, out[3] = dirty_table;
         world.outcome = before.outcome;
@@ -1036,6 +1109,8 @@ static void read_out(enum function function, uint64_t levels, uint64_t out[4]) {
 static bool writes(enum function function, uint32_t status) {
     if (function == ENTRIES)
         return status < X64_BAD_LEVELS;
+    if (function == LIST_RANGE || function == TAKE_RANGE || function == CHANGE_RANGE)
+        return status == X64_OK || status == X64_MORE || status == X64_PARENT_ENTRY_HUGE_PAGE;
     if (function == MAP_RANGE && (status == X64_FRAME_ALLOCATION_FAILED || status == X64_PARENT_ENTRY_HUGE_PAGE ||
         status == X64_PAGE_ALREADY_MAPPED))
         return true;
@@ -1186,7 +1261,7 @@ int main(void) {
         TRY((enum function)function, levels_rows);
         if (function != SPACES_FIT)
             TRY((enum function)function, hierarchies);
-        if (function == SPACES_FIT || function > CLEAN_UP)
+        if (function == SPACES_FIT || function > CHANGE_RANGE)
             TRY((enum function)function, indices);
     }
     for (int function = MAP; function < CLEAN_UP; function++)
@@ -1199,6 +1274,8 @@ int main(void) {
     TRY(ENTRIES, entries);
     TRY(TRANSLATE, translate);
     TRY(MAPPINGS, mappings);
+    TRY(LIST_RANGE, word_ranges);
+    TRY(LIST_RANGE, list_range);
     TRY(IS_VALID, is_valid);
     TRY(POOL_FITS, is_valid);
     TRY(POOL_FITS, pool_fits);
@@ -1216,6 +1293,10 @@ int main(void) {
     TRY(UNMAP_RANGE, unmap_range);
     TRY(UPDATE_FLAGS_RANGE, update_flags_range);
     TRY(CLEAN_UP, clean_up);
+    TRY(TAKE_RANGE, word_ranges);
+    TRY(TAKE_RANGE, take_range);
+    TRY(CHANGE_RANGE, word_ranges);
+    TRY(CHANGE_RANGE, change_range);
     TRY(NEW_SPACE, new_space);
     TRY(GIVE_UP_SPACE, give_up_space);
 
@@ -1225,6 +1306,7 @@ int main(void) {
         [ENTRIES] = {X64_NOT_MAPPED, X64_PARENT_ENTRY_HUGE_PAGE, X64_NO_TABLE, X64_BAD_ARRAY, X64_BAD_ADDRESS},
         [TRANSLATE] = {X64_NOT_MAPPED, X64_BAD_ADDRESS},
         [MAPPINGS] = {X64_MORE, X64_BAD_ADDRESS},
+        [LIST_RANGE] = {X64_MORE, X64_PARENT_ENTRY_HUGE_PAGE, X64_BAD_PAGE},
         [IS_VALID] = {X64_NOT_VALID, X64_BAD_ARRAY},
         [POOL_FITS] = {X64_NOT_VALID, X64_BAD_ARRAY},
         [ACCESS] = {X64_PAGE_FAULT, X64_NO_TABLE, X64_BAD_ACCESS, X64_BAD_ADDRESS},
@@ -1242,6 +1324,8 @@ int main(void) {
         [UNMAP_RANGE] = {X64_MORE, X64_BAD_PAGE},
         [UPDATE_FLAGS_RANGE] = {X64_NOT_ALLOWED, X64_BAD_PAGE},
         [CLEAN_UP] = {X64_BAD_ARRAY, X64_BAD_PAGE},
+        [TAKE_RANGE] = {X64_MORE, X64_PARENT_ENTRY_HUGE_PAGE, X64_BAD_PAGE},
+        [CHANGE_RANGE] = {X64_NOT_ALLOWED, X64_MORE, X64_PARENT_ENTRY_HUGE_PAGE, X64_BAD_PAGE},
         [NEW_SPACE] = {X64_FRAME_ALLOCATION_FAILED, X64_BAD_ARRAY, X64_BAD_INDICES},
         [GIVE_UP_SPACE] = {X64_SPACE_IN_USE, X64_BAD_ARRAY, X64_BAD_INDICES},
     };
