@@ -156,7 +156,16 @@ fn the_root_is_where_it_is_lent_and_not_at_the_offset() {
     // SAFETY: no processor uses the tables.
     unsafe { mapper.map_to(page, frame, BOTH, &mut Free::new(1..4)) }.expect("a frame is free").ignore();
     assert_eq!(mapper.translate_page(page), Ok(frame));
-    let controls = Controls { write_protect: true, no_execute: true, smep: false, smap: false, ac: false, physical_bits: 40, no_1gib_pages: false, global_reserved: false };
+    let controls = Controls {
+        write_protect: true,
+        no_execute: true,
+        smep: false,
+        smap: false,
+        ac: false,
+        physical_bits: 40,
+        no_1gib_pages: false,
+        global_reserved: false,
+    };
     let read = Access { kind: AccessKind::Read, user: false };
     assert_eq!(mapper.access(VirtAddr::new(0x7abc), read, &controls).ok(), Some(PhysAddr::new(0x4dabc)));
     assert!(matches!(mapper.access(VirtAddr::new(0x8abc), read, &controls), Err(Fault::PageFault { .. })));

@@ -75,9 +75,9 @@ pub struct EntriesRead {
 ///
 /// ```text
 /// requires { L.LEVELS ≤ length entries.old }
-/// ensures writes { walk.Writes (walk.steps_to L.LEVELS (words_of (T.tables memory.now) (P.places mapping.now)) root address) entries.old entries.new result.count }
-/// ensures rights { result.rights ≡ walk.rights_in (walk.steps_to L.LEVELS (words_of (T.tables memory.now) (P.places mapping.now)) root address) }
-/// ensures end { result.end ≡ walk.end_of (walk.steps_to L.LEVELS (words_of (T.tables memory.now) (P.places mapping.now)) root address) }
+/// ensures writes { walk.Writes (steps (words_of (T.tables memory.now) (P.places mapping.now)) address L.LEVELS root) entries.old entries.new result.count }
+/// ensures rights { result.rights ≡ rights_in (steps (words_of (T.tables memory.now) (P.places mapping.now)) address L.LEVELS root) }
+/// ensures end { result.end ≡ walk.end_of (steps (words_of (T.tables memory.now) (P.places mapping.now)) address L.LEVELS root) }
 /// ```
 pub fn read_entries<L: LevelCount, T: TableMemory, P: PageTableFrameMapping>(
     memory: &T,
