@@ -1,9 +1,9 @@
 -- Calls on 4KiB pages that are made if they are allowed.
-use Rattle.std.specs.Prelude.{◌≡◌, ℕ, Bool, true, List, ◌∷◌, [], Result, IfOk, IsTrue}
+use Rattle.std.specs.Prelude.{◌≡◌, ℕ, Bool, true, List, ◌∷◌, [], Some, Result, IfOk, IsTrue}
 use Rattle.x86_64_mappers.specs.PageAnswers.{allows_call}
 use Rattle.x86_64_mappers.specs.Ranges.{MapRange, MayMapRange, range_of}
 use Rattle.x86_64_model.specs.Entry.{present}
-use Rattle.x86_64_model.specs.Hierarchy.{Hierarchy, ArrivesIn, Steps}
+use Rattle.x86_64_model.specs.Hierarchy.{Hierarchy, ArrivesIn, map_outcome, paths}
 use Rattle.x86_64_model.specs.MapRule.{parent_part}
 use Rattle.x86_64_model.specs.PageCalls.{PageCall, MapTo, MapToWithTableFlags, Unmap, AnswersMap, asked}
 use Rattle.x86_64_model.specs.Refusal.{Answer, Done}
@@ -16,9 +16,10 @@ abbrev pub MapsIfAllowed : {Lent : Type 0} → (h : Hierarchy Lent) → (supply 
 MapsIfAllowed h supply call answer after rest = allows_call h 1 call ≡ true → AnswersMap h supply 1 call answer after rest
 
 -- If the hierarchy allows the map of a 4KiB page, the map has this answer, and turns the path map and the supply into those after
--- it.
+-- it, by the rule of maps.
 abbrev pub StepsIfAllowed : {Lent : Type 0} → (h : Hierarchy Lent) → (supply : List ℕ) → PageCall → Answer → (after : Hierarchy Lent) → (rest : List ℕ) → Type 0
-StepsIfAllowed h supply call answer after rest = allows_call h 1 call ≡ true → Steps h supply (asked h 1 call) answer after rest
+StepsIfAllowed h supply call answer after rest = allows_call h 1 call ≡ true
+    → map_outcome h.layout.levels h.layout.added_flags (paths h) supply (asked h 1 call) ≡ Some (record { paths = paths after; supply = rest; answer = answer })
 
 -- If the page was mapped (the result is `true`) with PRESENT, the page walk of each of its addresses arrives in the frame, with
 -- exactly the rights of the flags.

@@ -30,9 +30,9 @@ module _ (l : Layout) (store : Store) (m : Memory) (level page more : ℕ) (fits
 
   -- one that isn't allowed
   pub not_prepared : allows_page (of l m) level page 0 more ≡ false → (n : Memory) → n ≡ m → PreparesPage (of l m) store level page more (of l n) store not_allowed
-  not_prepared no n same = subst (λ n. PreparesPage (of l m) store level page more (of l n) store not_allowed) (sym same) (record {
-    status_is = ap (λ b. preparation_status b (preparation_refusal (of l m) store level page more)) (sym no);
-    prepares = λ may. absurd (true≢false (sym may ∙ no));
+  not_prepared denied n same = subst (λ n. PreparesPage (of l m) store level page more (of l n) store not_allowed) (sym same) (record {
+    status_is = ap (λ b. preparation_status b (preparation_refusal (of l m) store level page more)) (sym denied);
+    prepares = λ may. absurd (true≢false (sym may ∙ denied));
     keeps = stays;
     serves = refl;
   })

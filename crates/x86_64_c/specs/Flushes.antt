@@ -1,5 +1,5 @@
 -- What has to be flushed after a call, by its kind and its status, and after an exchange of an entry's word, by both words.
-use Rattle.std.specs.Prelude.{◌≡◌, ◌≤◌, ℕ, ◌==◌, ◌&&◌, ◌||◌, not, nat_lt, nat_le, Bool, true, cond, List, length, Option, Some, None, unwrap_or}
+use Rattle.std.specs.Prelude.{◌≡◌, ◌≤◌, ℕ, ◌==◌, ◌&&◌, ◌||◌, not, nat_lt, nat_le, Bool, true, cond, List, [], length, Option, Some, None, unwrap_or}
 use Rattle.x86_64_model.specs.Call.{Call, MapTo, MapToWithTableFlags, IdentityMap, Unmap, UpdateFlags, SetFlags, TranslatePage, Translate, TranslateAddress, CleanUp, Reply, NotAllowed, Answered, Position, Address, Cleaned, parent_flags_of}
 use Rattle.x86_64_model.specs.Entry.{no_execute}
 use Rattle.x86_64_model.specs.Flushing.{flush_after, due_between}

@@ -1,5 +1,6 @@
 -- What steps do to a pool that serves the names of its loans, too, they do to one that serves its own frames alone.
-use Rattle.std.specs.Prelude.{◌≡◌, ℕ, Bool, List, Option, Some, None, IfSome, Result, Ok, Err, IfErr, OnOk, refl, ap}
+use Rattle.std.specs.Prelude.{◌≡◌, ℕ, Bool, List, Option, Some, None, IfSome, Result, Ok, Err, IfErr, OnOk, refl}
+use Rattle.std.proofs.Common.{ap}
 use Rattle.std.specs.Borrow.{GName}
 use Rattle.x86_64_model.specs.Layout.{Layout}
 use Rattle.x86_64_model.specs.Hierarchy.{Hierarchy}
