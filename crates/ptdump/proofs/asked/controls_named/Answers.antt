@@ -1,4 +1,4 @@
-use Rattle.std.proofs.Common.{◌∙◌, sym, codes}
+use Rattle.std.proofs.Common.{◌∙◌, refl, sym, codes}
 use Rattle.ptdump.proofs.Settings.{bad_setting, known_texts, listed_texts, unknown_texts}
 use Rattle.ptdump.proofs.asked.controls_named.Goals as goal
 
@@ -19,4 +19,6 @@ returns-clause-words c =
       smep = c.is_listed-3.ensures ∙ listed_texts words (codes "smep");
       smap = c.is_listed-4.ensures ∙ listed_texts words (codes "smap");
       ac = c.is_listed-5.ensures ∙ listed_texts words (codes "ac");
+      giant_pages = refl;
+      global_ignored = refl;
     }
