@@ -38,9 +38,6 @@ module _ (w : ℕ) (fs : List Listed) (i : ℕ) (d : Listed) (below : i < length
   pub separator_set : not (bit_and w next.bit == 0) ≡ true → separator_after (set_in w (map named_flag (take (i + 1) fs))) ≡ codes ","
   separator_set is = ap (λ gs. separator_after (set_in w gs)) (map_more named_flag fs i d below) ∙ ap separator_after (set-push w before next true is) ∙ separator-push (set_in w before) next
 
-  pub set_past : not (bit_and w next.bit == 0) ≡ false → set_in w (map named_flag (take (i + 1) fs)) ≡ set_in w before
-  set_past is = ap (set_in w) (map_more named_flag fs i d below) ∙ set-push w before next false is ∙ append-nil (set_in w before)
-
 -- a number that isn't 0
 pub is_set : (n : ℕ) → (n ≡ 0 → ⊥) → not (n == 0) ≡ true
 is_set n differs = by (n == 0) refl

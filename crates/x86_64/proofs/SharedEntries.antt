@@ -160,14 +160,6 @@ module _ (L : ℕ) (some : 1 ≤ L) where
         let t : true ≡ false = sym (and_from _ _ (le-leb _ _ low) (le-leb _ _ high)) ∙ sym is ∙ none i on in cc),
   )
 
-  -- a range without pages meets nothing
-  pub nothing_met : (shared : ℕ → Bool) (start end : ℕ) → end + 0xfff < start → IsTrue true ↔ ((i : ℕ) → shared i ≡ true → meets L start (end + 0xfff) (i ∷ []) ≡ false)
-  nothing_met shared start end wrong = (
-    λ t i on. let e = lt-leb start (end + 0xfff) wrong in
-        ap (λ b. b && nat_le (span_start L (i ∷ [])) (end + 0xfff) && nat_lt start (span_start L (i ∷ []) + span_size L (i ∷ []))) e,
-    λ none. refl,
-  )
-
   -- all positions meet all indices
   pub all_met : (shared : ℕ → Bool) → (test : Bool) → (IsTrue test ↔ ((i : ℕ) → shared i ≡ true → 0 ≤ i → i ≤ 511 → ⊥))
       → IsTrue test ↔ ((i : ℕ) → shared i ≡ true → meets L 0 (position_count L - 1) (i ∷ []) ≡ false)

@@ -44,9 +44,6 @@ module _ (request : MapRequest) {L level position size : ℕ} (good : wrong_page
   pub right_frame : starts_frame size request.frame ≡ true → bad_map L request ≡ None
   right_frame there = only_frame L request level position size good is spans ∙ ap (λ b. unless b status.bad_frame) there
 
-  pub frame_refused : starts_frame size request.frame ≡ false → bad_map L request ≡ Some status.bad_frame
-  frame_refused none = only_frame L request level position size good is spans ∙ ap (λ b. unless b status.bad_frame) none
-
 -- the call for a page is the requested one
 pub requested : (L : ℕ) (request : MapRequest) (level position : ℕ) → IsPageOf L request.page level position
     → on_page level (MapToWithTableFlags position request.frame request.flags request.parent_flags) ≡ map_asked L request

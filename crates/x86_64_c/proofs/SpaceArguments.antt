@@ -22,11 +22,6 @@ tells false s is means same = record {
 
 -- ---- arguments that are right
 
-pub good_test : (levels from to : ℕ) (lent : Loan) (marks : ℕ) → ((levels == 4) || (levels == 5)) ≡ true → lent.free ≤ length lent.array → length lent.tables ≤ marks → wrong_indices from to ≡ None → wrong_spaces_test levels from to lent marks ≡ None
-good_test levels from to lent marks four_or_five within enough right =
-    ap (λ b. option_or (unless b status.bad_levels) (option_or (unless (nat_le lent.free (length lent.array) && nat_le (length lent.tables) marks) status.bad_array) (wrong_indices from to))) four_or_five
-    ∙ ap₂ (λ b c. option_or (unless (b && c) status.bad_array) (wrong_indices from to)) (le-leb _ _ within) (le-leb _ _ enough) ∙ right
-
 -- nothing is wrong with any of several arguments if nothing is with the first, and with the others
 none_both : {X : Type 0} (a b : Option X) → option_or a b ≡ None → (a ≡ None) × (b ≡ None)
 none_both None b none = (refl, none)

@@ -65,23 +65,6 @@ module _ (own : List ℕ) (h : Given) (lent after : Loan) (few : length own ≤ 
 
   -- ---- a space that is given up
 
-  pub gives_up_space : (from to : ℕ) → bad_gone h lent from to ≡ None
-      → Leaves own lent.array lent.free after.array after.free (λ pool rest. IsGivenUp (shared_in from to) (hierarchy_in h lent.tables) pool (numbered after.tables) rest)
-      → GivesUpSpace own h lent from to status.ok after
-  gives_up_space from to good gone = record {
-    bad = λ why is. let z : None ≡ Some why = sym good ∙ is in cc;
-    in_use = λ _ used. absurd (used gone.does.none_used);
-    given_up = λ _ alone. (
-      refl,
-      record {
-        given_up = gone.does;
-        fit = λ spaces apart fit. record { room = omega (arith, few, long); are_spaces = gone.does.spaces spaces apart fit.are_spaces };
-      },
-    );
-    room = long;
-    in_array = λ _. gone.in_array;
-  }
-
 -- ---- nothing changed
 
 module _ (own : List ℕ) (h : Given) (ts us : List (List ℕ)) (array left : List ℕ) (free count from to : ℕ) (tables : numbered us ≡ numbered ts) (same : left ≡ array) (as_many : count ≡ free) where

@@ -17,13 +17,6 @@ module _ {Lent : Type 0} (h : Hierarchy Lent) (supply : Supply) (level page more
   abbrev rule : AfterTables
   rule = tables_rule (paths h) supply.frames more h.layout.added_flags (parents (path_of h level page))
 
-  pub refused_by_look : (why : Refusal) → rule.refusal ≡ Some why → Prepares h supply level page more (Some why) h supply
-  refused_by_look why is = record {
-    outcome = sym (ap (made_or_nothing (paths h) supply.frames rule) is);
-    done = λ none. cc;
-    refused = λ _. (refl, refl);
-  }
-
   module _ (refusal : Option Refusal) (after : Hierarchy Lent) (rest : Supply) (creates : CreatesAbove h supply level page more refusal after rest) (is : rule.refusal ≡ None) where
     none_left : refusal ≡ None
     none_left = ap (λ (a : AfterTables). a.refusal) creates.outcome ∙ is
@@ -77,7 +70,3 @@ module _ {Lent : Type 0} (h : Hierarchy Lent) (l : Layout) (m : Memory) (layout 
         made_by_look (l laid_in m) supply level page more (tables_refusal result) (l laid_in n) rest here is,
         λ P. no_error result P (none_left (l laid_in m) supply level page more (tables_refusal result) (l laid_in n) rest here is),
       )
-
--- the look refused it
-pub refused_after_look : (h : Hierarchy (Unit {0})) (supply : Supply) (free : ℕ) → length supply.frames ≡ free → (level page more : ℕ) (why : Refusal) → WouldRefuse h level page free (Some why) → Prepares h supply level page more (Some why) h supply
-refused_after_look h supply free count level page more why would = refused_by_look h supply level page more why (would supply.frames more count)

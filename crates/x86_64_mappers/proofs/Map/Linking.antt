@@ -150,12 +150,6 @@ module _ {Lent : Type 0} (h after : Hierarchy Lent) (apart : Distinct h.layout.p
     | false ↦ λ e. ap (λ (h : Hierarchy Lent). h.layout) e
   ] is
 
-  pub same_lent : after.lent ≡ h.lent
-  same_lent = elim was as (λ b. after ≡ cond b (with_zeros h g) h → after.lent ≡ h.lent) [
-    | true ↦ λ e. ap (λ (h : Hierarchy Lent). h.lent) e
-    | false ↦ λ e. ap (λ (h : Hierarchy Lent). h.lent) e
-  ] is
-
   pub may_after : MayLink after.layout after.memory path k f g x
   may_after = elim was as (λ b. after ≡ cond b (with_zeros h g) h → MayLink after.layout after.memory path k f g x) [
     | true ↦ λ e. subst (λ (h : Hierarchy Lent). MayLink h.layout h.memory path k f g x) (sym e) (may_link_cleared h.layout apart h.memory path k f g x may (with_zeros h g).memory now_cleared)

@@ -136,9 +136,6 @@ module _ (l : Layout) (m : Memory) (valid : Valid (l laid_in m)) (path : List �
   find_next g is = subst (λ j. IsOnWay l m path (take j path) (drop j path) g) (sym (add-one k))
       (subst (λ t. IsOnWay l m path t (drop (suc k) path) g) (sym (take-suc path k 0 within)) (way_next l m valid path (take k path) (drop (suc k) path) (get_or path k 0) f room parted g is))
 
-  pub find_stop : (why : Refusal) → Err why ≡ table_below (word (words (l laid_in m)) f (get_or path k 0)) → IsFound l m path (Err why)
-  find_stop why is = way_stop l m valid path (take k path) (drop (suc k) path) (get_or path k 0) f room parted why is
-
 pub find_end : (l : Layout) (m : Memory) (path : List ℕ) (k g : ℕ) → length path ≤ k → IsOnWay l m path (take k path) (drop k path) g → IsFound l m path (Ok g)
 find_end l m path k g past here = way_end l m path g (subst₂ (λ t d. IsOnWay l m path t d g) (take_all k path past) (drop_all k path past) here)
 

@@ -42,10 +42,6 @@ module _ (window : Option Window) (L level : ℕ) (low : 1 ≤ level) (high : le
   begins_is : (p : ℕ) → begins_with window (path_at L level p) ≡ is_index (option_map (λ w. w.index) window) (index L p)
   begins_is p = first_index window L level p levels high
 
-  -- if there is none, each page is outside
-  pub none_outside : option_map (λ w. w.index) window ≡ None → (p : ℕ) → begins_with window (path_at L level p) ≡ false
-  none_outside none p = begins_is p ∙ ap (λ o. is_index o (index L p)) none
-
   module _ (r first last : ℕ) (some : option_map (λ w. w.index) window ≡ Some r) (there : last < position_count L) (ordered : first ≤ last) where
     above : 0 < L
     above = omega (arith, levels)
@@ -150,9 +146,6 @@ module _ {Lent : Type 0} (h : Hierarchy Lent) (level page : ℕ) (aligned : page
       let here = number_above page p (span level) (span_pos level) aligned multiple from in
       let few = le_of_mul-le-mul_right {m = k} {n = count - 1} {k = span level} (omega (arith, here, to)) (span_pos level) in
       subst (λ p. begins_with h.layout.window (path_of h level p) ≡ false) (sym here) (range.outside k (omega (arith, few, some)))
-
-  pub last_there : IsRange h level page count → last < position_count h.layout.levels
-  last_there range = range.there (count - 1) (omega (arith, some))
 
 -- ---- maps of ranges, with PRESENT among the parent flags
 
