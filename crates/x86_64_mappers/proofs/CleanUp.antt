@@ -1,4 +1,8 @@
 pub mod AllPages
+pub mod BelowRoot
+pub mod BelowRootEnds
+pub mod BelowRootWalks
+pub mod BelowRootWhole
 pub mod CleanUpEnds
 pub mod Cleaned
 pub mod EntriesInRange
