@@ -1,6 +1,7 @@
 pub mod AllPages
 pub mod BelowRoot
 pub mod BelowRootEnds
+pub mod BelowRootSpaces
 pub mod BelowRootWalks
 pub mod BelowRootWhole
 pub mod CleanUpEnds

@@ -1,15 +1,17 @@
 -- Clean ups that keep each table which an entry of the root names, as other roots may name it too.
-use Rattle.std.specs.Prelude.{◌≡◌, ◌⊎◌, ◌-◌, ◌&&◌, nat_lt, ℕ, Bool, false, not, List, [], ◌∷◌, length, filter, map}
+use Rattle.std.specs.Prelude.{◌≡◌, ◌<◌, ◌⊎◌, ◌-◌, ◌&&◌, nat_lt, ℕ, Bool, false, not, List, [], ◌∷◌, length, filter, map}
 use Rattle.std.specs.FinMap.{retain_keys}
 use Rattle.x86_64_model.specs.CleanUp.{AfterCleanUp, is_removed}
 use Rattle.x86_64_model.specs.Entry.{address}
-use Rattle.x86_64_model.specs.Hierarchy.{Hierarchy, KeepsOthers, SupplyFits, Valid, paths, walk, words}
+use Rattle.x86_64_model.specs.Hierarchy.{◌laid_in◌, Hierarchy, KeepsOthers, SupplyFits, Valid, paths, walk, words}
+use Rattle.x86_64_model.specs.Layout.{Layout}
 use Rattle.x86_64_model.specs.Lists.{In}
-use Rattle.x86_64_model.specs.Memory.{word}
+use Rattle.x86_64_model.specs.Memory.{IsMapping, Memory, word}
 use Rattle.x86_64_model.specs.Path.{paths_below}
 use Rattle.x86_64_model.specs.PathMap.{PathMap, entry}
 use Rattle.x86_64_model.specs.Pool.{IsTable, TakesBack, with_returned}
 use Rattle.x86_64_model.specs.Position.{page_path}
+use Rattle.x86_64_model.specs.Spaces.{AreSpaces}
 use Rattle.x86_64_model.specs.Store.{Store}
 use Rattle.x86_64_model.specs.Window.{begins_with}
 
@@ -49,3 +51,17 @@ pub record CleansUpBelowRoot {Lent : Type 0} (h : Hierarchy Lent) (store : Store
   pub others : KeepsOthers (IsTable h.layout.levels h.layout.root (paths h)) h after
   pub layout : after.layout ≡ h.layout
   pub lent : after.lent ≡ h.lent
+
+-- After a call on one of many address spaces led from the memory m to the memory n, all are address spaces again, with the rest of the
+-- pool. Each page walk of each of them has the result that it had, outside its recursive window and that of the one that was called.
+pub record KeepsSpaces (shared : ℕ → Bool) (spaces : List Layout) (one : Layout) (serves : ℕ → Bool) (m : Memory) (n : Memory) (rest : List ℕ) : Type 0 where
+  pub spaces_stay : AreSpaces shared n serves rest spaces
+  pub walks_stay : (b : Layout) → In spaces b → (p : ℕ) → begins_with one.window (page_path one.levels p) ≡ false → begins_with b.window (page_path b.levels p) ≡ false
+      → walk (b laid_in n) p ≡ walk (b laid_in m) p
+
+-- If one of many address spaces is cleaned up below its root's entries, whether they are shared or not, all are address spaces again, with
+-- the pool that got the freed frames, and each page walk of each of them stays.
+abbrev pub SpacesStayCleanedBelowRoot : Type 0
+SpacesStayCleanedBelowRoot = (shared : ℕ → Bool) (spaces : List Layout) (one : Layout) → In spaces one → IsMapping one.places → 0 < one.levels
+    → (store rest : Store) → TakesBack store.take_back → (m n : Memory) (low high : ℕ) → AreSpaces shared m store.serves store.frames spaces
+    → CleansUpBelowRoot (one laid_in m) store low high (one laid_in n) rest → KeepsSpaces shared spaces one store.serves m n rest.frames

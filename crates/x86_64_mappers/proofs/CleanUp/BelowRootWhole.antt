@@ -12,9 +12,10 @@ use Rattle.x86_64_model.proofs.Lemmas.CleanUps.Parts.{back_none, empty_part, fro
 use Rattle.x86_64_model.proofs.Lemmas.CleanUps.Removed.{in_range_parts}
 use Rattle.x86_64_model.proofs.Lemmas.CleanUps.Trees.{goes_below, once_paths}
 use Rattle.x86_64_model.proofs.Lemmas.Entries.Bits.{zero_absent}
-use Rattle.x86_64_model.proofs.Lemmas.Hierarchies.Trees.{IsTree}
+use Rattle.x86_64_model.proofs.Lemmas.Hierarchies.Changes.{unused_no_table}
+use Rattle.x86_64_model.proofs.Lemmas.Hierarchies.Trees.{IsTree, some_not_none}
 use Rattle.x86_64_model.proofs.Lemmas.Lists.All.{every_in, filter_same}
-use Rattle.x86_64_model.proofs.Lemmas.Lists.Members.{from_flat_map, in_filter, in_map, passes}
+use Rattle.x86_64_model.proofs.Lemmas.Lists.Members.{from_flat_map, from_map, in_filter, in_map, passes}
 use Rattle.x86_64_model.proofs.Lemmas.Lists.Once.{once_filter, once_map}
 use Rattle.x86_64_model.proofs.Lemmas.Paths.Begins.{begins_on, below_begins}
 use Rattle.x86_64_model.proofs.Lemmas.Paths.Ranges.{range_below}
@@ -143,3 +144,22 @@ module _ (L root : ℕ) (M : PathMap) (tree : IsTree L root M) (low high : ℕ) 
           (in_map (λ q. address (entry M q)) went (i ∷ q) (in_filter (is_removed_below_root L M low high) (paths_below (L - 1) []) (i ∷ q) (listed L root M tree low high i q r) gone))))
           (λ stays. inl (i ∷ q, ap (table_of L (i ∷ q)) (entry_is (i ∷ q) ∙ ap (λ b. cond b 0 (entry M (i ∷ q))) stays) ∙ at))
           (cases_Bool (is_removed_below_root L M low high (i ∷ q)))
+
+  -- a freed frame was that of a table, and not the root's
+  pub back_was : (f : ℕ) → In (clean_up_below_root L M low high).back f → (i : ℕ) × (q : List ℕ) × (table_at L root M (i ∷ q) ≡ Some f)
+  unfolding clean_up_below_root
+  back_was f h = let at = from_map (λ q. address (entry M q)) went f h in by at.0 (passes (is_removed_below_root L M low high) (paths_below (L - 1) []) at.0 at.1) at.2
+    where
+      by : (q : List ℕ) → is_removed_below_root L M low high q ≡ true → address (entry M q) ≡ f → (i : ℕ) × (q : List ℕ) × (table_at L root M (i ∷ q) ≡ Some f)
+      by [] r e = cc
+      by (i ∷ q) r e = (i, q, removed_leads L root M tree low high (i ∷ q) (and_parts _ _ r).1 ∙ ap Some e)
+
+  -- a table that is left was a table
+  pub left_was : (q : List ℕ) (f : ℕ) → table_at L root (clean_up_below_root L M low high).paths q ≡ Some f → table_at L root M q ≡ Some f
+  unfolding clean_up_below_root
+  left_was [] f t = t
+  left_was (i ∷ q) f t = by (is_removed_below_root L M low high (i ∷ q)) (entry-retained M (is_removed_below_root L M low high) (i ∷ q))
+    where
+      by : (b : Bool) → entry (retain_keys M (λ q. not (is_removed_below_root L M low high q))) (i ∷ q) ≡ cond b 0 (entry M (i ∷ q)) → table_of L (i ∷ q) (entry M (i ∷ q)) ≡ Some f
+      by true e = absurd (some_not_none f (sym t ∙ ap (table_of L (i ∷ q)) e ∙ unused_no_table L (i ∷ q)))
+      by false e = ap (table_of L (i ∷ q)) (sym e) ∙ t
