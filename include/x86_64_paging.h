@@ -132,9 +132,14 @@
  * shared_from and shared_to, leave all fields as they are from now on, and make the others by
  * x64_space_new. No further test is needed.
  *
+ * x64_space_clean_up_below_root cleans up below shared entries, too. It refuses nothing, since it
+ * keeps each table that an entry of the root names. It is proved that all spaces are spaces again,
+ * and that the result of each page walk of each of them stays
+ * (spaces_stay_after_clean_ups_below_root in crates/x86_64_mappers).
+ *
  * A copy of a space with 0 to 0 in place of its shared indices refuses nothing either. Who makes a
  * call on that has to see to it that all roots have the same shared entries again before the next
- * call: by leaving a page below each of them during a clean up, for example.
+ * call.
  *
  * Roots may also share in pairs, for example a kernel's root and a user's root of each process. It
  * is proved of the model that calls keep this, too (paired_spaces_stay). But x64_spaces_fit knows
@@ -159,8 +164,8 @@
  *   x64_change_range                            x64_flush_between tells of its word and the new one
  *   x64_set_table_flags       X64_OK            everything, global pages too: a change of CR4.PGE,
  *                                               or INVPCID of everything
- *   x64_clean_up              X64_OK            tables: any INVLPG, or a load of CR3 with bit 63
- *                                               clear. If EFER.TCE is set (AMD), INVLPG isn't
+ *   x64_clean_up,             X64_OK            tables: any INVLPG, or a load of CR3 with bit 63
+ *   x64_clean_up_below_root                     clear. If EFER.TCE is set (AMD), INVLPG isn't
  *                                               enough
  *   x64_map, x64_prepare      X64_OK            nothing; but everything, global pages too, if the
  *                                               parent flags have X64_NO_EXECUTE (those of
@@ -189,7 +194,7 @@
  *               Nor is a right gone before the flush.
  *   a page      until a smaller page is mapped there: one INVLPG drops all of a large page only as
  *               long as no smaller one is there.
- *   tables      until a frame that x64_clean_up freed is taken: by a map (x64_map,
+ *   tables      until a frame that a clean up freed is taken: by a map (x64_map,
  *               x64_map_as_mapper, x64_map_range), x64_prepare or x64_new_space with this pool, on
  *               whatever root, or by the caller. It may become another table or a root, which the
  *               processor would walk as the old one. The map of a page takes at most the last 3
@@ -233,7 +238,8 @@
  * Each function is proved to do what the model's call does (a refused x64_map does nothing), so the
  * laws are about these calls. x64_prepare of a page of 4 KiB leaves what a call leaves that maps
  * the page to frame 0 without flags, and so writes 0 (small_preparations_are_steps in
- * crates/x86_64_live). For larger pages it is none of these calls. x64_take_range and
+ * crates/x86_64_live). For larger pages it is none of these calls. Nor is
+ * x64_clean_up_below_root: that the flush after it is enough isn't proved. x64_take_range and
  * x64_change_range leave what exchanges of the entries of their pages leave (ExchangesPages there),
  * whose law is at x64_flush_between.
  *
@@ -261,7 +267,7 @@
  * then, too, if at each moment the tables are a valid hierarchy, with each entry as it was or as it
  * will be. The source writes so: a map clears a new table before it writes the entry that names it,
  * and a clean up looks for entries in a table before it clears the one that names it. A compiler
- * may change the order. Frames that x64_clean_up puts back into the pool hold zeros. The model
+ * may change the order. Frames that a clean up puts back into the pool hold zeros. The model
  * leaves out memory types, protection keys, nested paging, ASIDs and INVLPGB, and that a large page
  * may be cached in parts.
  *
@@ -279,8 +285,8 @@
  *    finding a word and exchanging it. x86_64_paging_live.h has the functions, and says more.
  *    x64_map, x64_map_as_mapper, x64_unmap and x64_update_flags touch the entry of their page and
  *    those above it, and x64_prepare only those above it; ranges touch those of all their pages;
- *    x64_clean_up touches all entries in its range, and x64_give_up_space those of the root, and
- *    both free tables.
+ *    clean ups touch all entries in their range, and x64_give_up_space those of the root, and these
+ *    free tables.
  * 5. Processors mark entries at any moment. What they set is lost only by calls that read an entry
  *    and then write it: x64_unmap, x64_update_flags, their ranges, x64_take_range,
  *    x64_change_range, x64_set_table_flags, maps and x64_prepare if they add parent flags, and
@@ -455,7 +461,7 @@ enum {
     X64_CALL_UNMAP = 1,           /* x64_unmap, x64_unmap_range */
     X64_CALL_UPDATE_FLAGS = 2,    /* x64_update_flags, x64_update_flags_range */
     X64_CALL_SET_TABLE_FLAGS = 3, /* x64_set_table_flags */
-    X64_CALL_CLEAN_UP = 4         /* x64_clean_up */
+    X64_CALL_CLEAN_UP = 4         /* x64_clean_up, x64_clean_up_below_root */
 };
 
 
@@ -813,6 +819,14 @@ static inline uint32_t x64_space_change_range(const x64_space *space, uint64_t f
 X64_NODISCARD
 static inline uint32_t x64_space_clean_up(const x64_space *space, x64_pool *pool,
                                           uint64_t first_page, uint64_t last_page);
+
+/* x64_clean_up_below_root: the same, below shared entries, too, but it keeps each table that an
+ * entry of the root names. A call that reaches below shared entries runs alone among all calls
+ * there, and then each processor that uses one of the roots flushes, before a freed frame is taken.
+ * Returns X64_OK; X64_BAD_PAGE. */
+X64_NODISCARD
+static inline uint32_t x64_space_clean_up_below_root(const x64_space *space, x64_pool *pool,
+                                                     uint64_t first_page, uint64_t last_page);
 
 /* The starts of the first and of the last page of 4 KiB below the root's entry at an index from 0
  * to 511. A space that shares 256 to 512 cleans up from x64_space_first_page(space, 0) to
@@ -1365,6 +1379,19 @@ uint32_t x64_clean_up(const x64_hierarchy *hierarchy, x64_table *tables, size_t 
                       uint64_t last_page);
 
 /*
+ * Frees what x64_clean_up frees, except for tables that an entry of the root names: these stay,
+ * empty or not. So the root's entries stay, and other roots may have the same entries.
+ *
+ * Condition: the pool fits the hierarchy (x64_pool_fits).
+ *
+ * Returns X64_OK; X64_BAD_ARRAY if *free_count > capacity; X64_BAD_PAGE for either page.
+ */
+X64_NODISCARD
+uint32_t x64_clean_up_below_root(const x64_hierarchy *hierarchy, x64_table *tables,
+                                 size_t table_count, uint64_t *pool, size_t capacity,
+                                 size_t *free_count, uint64_t first_page, uint64_t last_page);
+
+/*
  * Makes one more address space. The last free frame of the pool becomes its root: it gets the
  * template's entries from shared_from up to, but not including, shared_to, and all its other words
  * become 0. Its physical address is written to *root, and *free_count decreases by one. If the
@@ -1709,6 +1736,13 @@ static inline uint32_t x64_space_clean_up(const x64_space *space, x64_pool *pool
         return X64_SHARED_ENTRY;
     return x64_clean_up(&hierarchy, space->tables, space->table_count, pool->frames, pool->capacity,
                         &pool->free_count, first_page, last_page);
+}
+
+static inline uint32_t x64_space_clean_up_below_root(const x64_space *space, x64_pool *pool,
+                                                     uint64_t first_page, uint64_t last_page) {
+    x64_hierarchy hierarchy = x64_space_hierarchy(space);
+    return x64_clean_up_below_root(&hierarchy, space->tables, space->table_count, pool->frames,
+                                   pool->capacity, &pool->free_count, first_page, last_page);
 }
 
 static inline uint32_t x64_space_set_table_flags(const x64_space *space, uint64_t page,

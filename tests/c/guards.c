@@ -259,6 +259,26 @@ static void try_tables(const x64_space *space) {
     WANTS(X64_OK, x64_space_set_table_flags(space, page_at(OWN, 0), X64_SIZE_4KIB, space->levels, USER));
 }
 
+/* The only page below a shared entry goes, and then all tables there but the one that the roots name. Another space maps the page again. */
+static void try_below_root(void) {
+    const x64_map_request request = request_of(page_at(UNMARKED, 0), X64_SIZE_4KIB, X64_PRESENT, X64_PRESENT);
+    const uint64_t page = request.page.start, last = x64_space_last_page(&spaces[1], UNMARKED), levels = spaces[1].levels;
+    const size_t free_count = pools[1].free_count;
+    x64_walked walked;
+    uint64_t frame;
+    WANTS(X64_OK, x64_space_clean_up_below_root(&spaces[1], &pools[1], page, last));
+    CHECK(pools[1].free_count == free_count);
+    WANTS(X64_OK, x64_space_unmap(&spaces[0], page, X64_SIZE_4KIB, &frame));
+    WANTS(X64_SHARED_ENTRY, x64_space_clean_up(&spaces[1], &pools[1], page, last));
+    WANTS(X64_OK, x64_space_clean_up_below_root(&spaces[1], &pools[1], page, last));
+    CHECK(pools[1].free_count == free_count + levels - 2 && all_fit());
+    WANTS(X64_OK, x64_space_clean_up_below_root(&spaces[2], &pools[1], page, last));
+    CHECK(pools[1].free_count == free_count + levels - 2);
+    WANTS(X64_OK, x64_space_map_with(&spaces[2], &pools[1], &request));
+    CHECK(pools[1].free_count == free_count && x64_space_page_walk(&spaces[0], page, &walked) == X64_OK);
+    WANTS(X64_BAD_PAGE, x64_space_clean_up_below_root(&spaces[0], &pools[1], page + 5, last));
+}
+
 static void try_accesses(const x64_space *space) {
     const x64_controls controls = {true, true, false, false, false, 52, false, false};
     const uint32_t wanted[] = {X64_SHARED_ENTRY, X64_OK, X64_PAGE_FAULT, X64_PAGE_FAULT, X64_OK, X64_BAD_ACCESS, X64_BAD_ADDRESS};
@@ -500,6 +520,7 @@ int main(int argc, char **argv) {
     for (uint64_t levels = 4; levels <= 5; levels++) {
         start(levels);
         note();
+        try_below_root();
         for (uint64_t n = 0; n < SPACES; n++) {
             const x64_space *space = &spaces[SPACES - 1 - n];
             try_maps(space, n + 1);

@@ -2,6 +2,7 @@ pub mod ArgumentsGiven
 pub mod EntryChanges
 pub mod Marked
 pub mod PoolSteps
+pub mod BelowRootSteps
 pub mod Pools
 pub mod Executed
 pub mod OrNothing

@@ -8,6 +8,7 @@ pub mod Listing
 pub mod Accesses
 pub mod Calls
 pub mod PoolCalls
+pub mod BelowRoot
 pub mod Preparations
 pub mod AddressSpaces
 pub mod Ranges

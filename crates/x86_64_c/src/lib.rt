@@ -7,6 +7,7 @@
 mod accesses;
 mod address_spaces;
 mod arguments;
+mod below_root;
 mod changes;
 mod entries;
 mod flush;

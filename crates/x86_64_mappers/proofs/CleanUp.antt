@@ -1,4 +1,9 @@
 pub mod AllPages
+pub mod BelowRoot
+pub mod BelowRootEnds
+pub mod BelowRootSpaces
+pub mod BelowRootWalks
+pub mod BelowRootWhole
 pub mod CleanUpEnds
 pub mod Cleaned
 pub mod EntriesInRange

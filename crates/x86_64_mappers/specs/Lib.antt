@@ -1,5 +1,6 @@
 pub mod AccessLending
 pub mod CleanUps
+pub mod CleanUpsBelowRoot
 pub mod InvalidPageTables
 pub mod Layouts
 pub mod Lending

@@ -15,6 +15,7 @@ ghost use Rattle.x86_64_tables.specs.PageTableFlags.{bits_of};
 pub use crate::walk::TableAccess;
 pub use crate::walk::change_range::{FrameSink, unmap_range, update_flags_range};
 use crate::walk::clean_up::all_pages;
+pub use crate::walk::clean_up::below_root::clean_up_below_root;
 pub use crate::walk::clean_up::clean_up_range;
 pub use crate::walk::condition::{map_range_allowed, range_allowed};
 pub use crate::walk::map_range::{MapRangeError, MapRangeError57, MapRangeErrorIn, map_range};

@@ -1,6 +1,7 @@
 //! Laws of mappers. The bodies are empty, the contracts are the laws.
 ghost use Rattle.std.specs.Prelude.{◌≡◌};
 ghost use Rattle.x86_64_model.specs.Memory.{identity_places, words_of};
+ghost use Rattle.x86_64_mappers.specs.CleanUpsBelowRoot.{SpacesStayCleanedBelowRoot};
 ghost use Rattle.x86_64_mappers.specs.Layouts.{AreValidAlike, FitAlike};
 ghost use Rattle.x86_64_mappers.specs.Offsets.{offset_places, OffsetFits};
 ghost use Rattle.x86_64_mappers.specs.Windows.{WindowsShowTables};
@@ -31,4 +32,10 @@ pub fn offset_has_the_tables_of_the_identity<L: LevelCount, T: TableMemory>(
 #[tactic(auto, using(crate::proofs::Window::Windows::windows_show_tables))]
 pub fn windows_show_their_tables()
     ensures { WindowsShowTables }
+{}
+
+/// If one of many address spaces is cleaned up below its root's entries, which it may share with the others, all are
+/// address spaces again, and each page walk of each of them has the result that it had, outside the recursive windows.
+pub fn spaces_stay_after_clean_ups_below_root()
+    ensures { SpacesStayCleanedBelowRoot }
 {}

@@ -30,7 +30,7 @@ given_more take_back held [] ys = refl
 given_more take_back held (x ∷ xs) ys = given_more take_back (take_back held x) xs ys
 
 -- a table's frame is in the memory
-table_there : (l : Layout) (m : Memory) → Valid (l laid_in m) → (f : ℕ) → IsTable l.levels l.root (paths (l laid_in m)) f → IsSome (words (l laid_in m) f)
+pub table_there : (l : Layout) (m : Memory) → Valid (l laid_in m) → (f : ℕ) → IsTable l.levels l.root (paths (l laid_in m)) f → IsSome (words (l laid_in m) f)
 table_there l m valid f t = there_read l.window l.root (words (l laid_in m)) f (valid.valid.holds.in_memory t.0 f t.1)
 
 -- a path below one outside the recursive index is outside it too

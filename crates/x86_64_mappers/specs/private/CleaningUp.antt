@@ -13,6 +13,7 @@ use Rattle.x86_64_model.specs.Pool.{IsTable, with_returned}
 use Rattle.x86_64_model.specs.Store.{Store}
 use Rattle.x86_64_model.specs.Window.{begins_with}
 use Rattle.x86_64_mappers.specs.CleanUps.{CleansUpInto}
+use Rattle.x86_64_mappers.specs.CleanUpsBelowRoot.{CleansUpBelowRoot}
 
 -- ---- the range
 
@@ -99,3 +100,8 @@ pub record CleansEntry {Lent : Type 0} (h : Hierarchy Lent) (store : Store) (fir
 -- the removed tables were returned to the store, which is `rest` then.
 abbrev pub CleansUpPages : {Lent : Type 0} → Hierarchy Lent → Store → (first last : List ℕ) → (after : Hierarchy Lent) → (rest : Store) → Type 0
 CleansUpPages h store first last after rest = CleansUpInto h store (span_start h.layout.levels first) (last_position h.layout.levels last) after rest
+
+-- The hierarchy was cleaned up below the root's entries for the pages from a first to a last one, given by their paths, and is `after`
+-- then. The frames of the removed tables were returned to the store, which is `rest` then.
+abbrev pub CleansUpPagesBelowRoot : {Lent : Type 0} → Hierarchy Lent → Store → (first last : List ℕ) → (after : Hierarchy Lent) → (rest : Store) → Type 0
+CleansUpPagesBelowRoot h store first last after rest = CleansUpBelowRoot h store (span_start h.layout.levels first) (last_position h.layout.levels last) after rest

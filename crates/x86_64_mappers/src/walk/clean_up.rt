@@ -11,6 +11,8 @@ ghost use Rattle.x86_64_mappers.specs.private.Stops.{leads_to_table};
 ghost use Rattle.x86_64_mappers.specs.Reached.{PathReaches};
 ghost use Rattle.x86_64_mappers.specs.CleanUps.{deallocator_store, MayCleanUpInto, CleansUpInto};
 
+pub mod below_root;
+
 use super::parents::next_table;
 use super::path::{MOST_LEVELS, path_of_address};
 use super::{TableAccess, entry_mut};
