@@ -22,7 +22,7 @@ use Rattle.x86_64_tables.specs.LentPool.{is_in, stacked}
 use Rattle.x86_64_tables.specs.Shifted.{shifted_places}
 use Rattle.x86_64.specs.Asked.{machine_call}
 use Rattle.x86_64_c.specs.Calls.{Changes}
-use Rattle.x86_64_c.specs.Arguments.{unless, bad_hierarchy, hierarchy_in}
+use Rattle.x86_64_c.specs.Arguments.{unless, bad_hierarchy, hierarchy_in, places_given}
 use Rattle.x86_64_c.specs.PoolCalls.{Loan, loan, Request, MayExecute, Executes, ExecutesOrNothing, bad_lent, bad_pool, pool_in}
 pub use Rattle.x86_64_c.specs.PoolCalls.{HasPool}
 use Rattle.x86_64_c.specs.Ranges as range
@@ -39,7 +39,7 @@ shared_in from to = indices_of (record { from = from; to = to })
 
 -- The layout of a hierarchy in the caller's tables.
 abbrev pub layout_given : Given → Layout
-layout_given h = direct_at h.levels (shifted_places h.first) h.root
+layout_given h = direct_at h.levels (places_given h) h.root
 
 -- The layouts of hierarchies with these roots in the caller's tables.
 abbrev pub layouts_given : (first levels : ℕ) → (roots : List ℕ) → List Layout
@@ -97,7 +97,7 @@ pub record Makes (own : List ℕ) (shared : ℕ → Bool) (template : Given) (le
   pub made : IsMade shared (hierarchy_in template lent.tables) (pool_in own lent.array lent.free) (space_at root) (numbered after.tables)
       (pool_in own after.array after.free)
   pub fit : (spaces : List Layout) → In spaces (layout_given template) → FitTogether own shared spaces lent
-      → FitTogether own shared (direct_at template.levels (shifted_places template.first) root ∷ spaces) after
+      → FitTogether own shared (direct_at template.levels (places_given template) root ∷ spaces) after
 
 -- A call to make a space returned this status, and left this of what the caller lent, and this where it writes the root.
 pub record MakesSpace (own : List ℕ) (template : Given) (lent : Loan) (from to result before : ℕ) (after : Loan) (root : ℕ) : Type 0 where

@@ -14,6 +14,7 @@ use crate::operation::{Operation, enter};
 use crate::pool::{PoolStep, Stepped, with_pool};
 use crate::status;
 use crate::validity::status_of_test;
+use x86_64::structures::paging::mapper::PageTableFrameMapping;
 use x86_64::structures::paging::{PageTable, PhysFrame, Size4KiB};
 use x86_64::{
     FiveLevels, FourLevels, FrameStore, GiveUpError, LentMemory, LevelCount, OwnFrames,
@@ -194,10 +195,10 @@ impl Operation for NewSpace {
         (shared_in new.shared_from new.shared_to) h array new.free_count after left made.free_count
         made.out };
 
-    fn execute<L: LevelCount, T: TableMemory>(
+    fn execute<L: LevelCount, T: TableMemory, P: PageTableFrameMapping + Copy>(
         &self,
         memory: &mut T,
-        located: Located,
+        located: Located<P>,
         array: &mut [u64],
     ) -> Result<Stepped<Option<PhysFrame<Size4KiB>>>, u32> {
         if array.len() < self.free_count {
@@ -211,7 +212,7 @@ impl Operation for NewSpace {
             });
         }
         let step = MakeRoot { shared };
-        Ok(with_pool::<L, _, _>(memory, located, &self.own, array, self.free_count, &step))
+        Ok(with_pool::<L, _, _, _>(memory, located, &self.own, array, self.free_count, &step))
     }
 }
 
@@ -237,14 +238,14 @@ impl<L: LevelCount> PoolStep<L> for MakeRoot {
     ghost does = { λ make h pool after rest made. TakesFirst pool made rest × IfSome made (λ root.
         IsMade (indices_of make.shared) h pool (space_at root) after.memory rest) };
 
-    fn take<T: TableMemory, F: FrameStore>(
+    fn take<T: TableMemory, P: PageTableFrameMapping + Copy, F: FrameStore>(
         &self,
         memory: &mut T,
-        located: Located,
+        located: Located<P>,
         frames: &mut F,
         _free_count: usize,
     ) -> Option<PhysFrame<Size4KiB>> {
-        let template = space_of(located);
+        let template = space_of(located.root);
         new_space::<L, _, _, _>(
             memory,
             &located.mapping,
@@ -334,10 +335,10 @@ impl Operation for GiveUp {
         (shared_in gone.shared_from gone.shared_to) h array gone.free_count after left given_up.free_count
         given_up.out };
 
-    fn execute<L: LevelCount, T: TableMemory>(
+    fn execute<L: LevelCount, T: TableMemory, P: PageTableFrameMapping + Copy>(
         &self,
         memory: &mut T,
-        located: Located,
+        located: Located<P>,
         array: &mut [u64],
     ) -> Result<Stepped<Result<(), GiveUpError>>, u32> {
         if self.root == 0 {
@@ -348,7 +349,7 @@ impl Operation for GiveUp {
         }
         let shared = shared_indices(self.shared_from, self.shared_to)?;
         let step = GiveUpRoot { shared };
-        Ok(with_pool::<L, _, _>(memory, located, &self.own, array, self.free_count, &step))
+        Ok(with_pool::<L, _, _, _>(memory, located, &self.own, array, self.free_count, &step))
     }
 }
 
@@ -375,14 +376,14 @@ impl<L: LevelCount> PoolStep<L> for GiveUpRoot {
         IfErr given_up (λ why. IsReason (indices_of give_up.shared) h why)
         × OnOk given_up (IsGivenUp (indices_of give_up.shared) h pool after.memory rest) };
 
-    fn take<T: TableMemory, F: FrameStore>(
+    fn take<T: TableMemory, P: PageTableFrameMapping + Copy, F: FrameStore>(
         &self,
         memory: &mut T,
-        located: Located,
+        located: Located<P>,
         frames: &mut F,
         _free_count: usize,
     ) -> Result<(), GiveUpError> {
-        let space = space_of(located);
+        let space = space_of(located.root);
         give_up_space::<L, _, _, _>(memory, &located.mapping, &space, self.shared, frames)
     }
 
@@ -390,12 +391,12 @@ impl<L: LevelCount> PoolStep<L> for GiveUpRoot {
         own_gone own array count same (indices_of give_up.shared) h after.memory free rest given_up };
 }
 
-/// Returns the address space of a hierarchy.
-fn space_of(located: Located) -> Space
-    ensures { result ≡ spaces.space_at located.root }
+/// Returns the address space with this root.
+fn space_of(root: PhysFrame<Size4KiB>) -> Space
+    ensures { result ≡ spaces.space_at root }
 {
     Space {
-        root: located.root,
+        root,
         recursive: None,
     }
 }
