@@ -17,6 +17,7 @@ use Rattle.x86_64_mappers.specs.Ranges.{map_at}
 use Rattle.x86_64_spaces.specs.declared.space.Space.{Space}
 use Rattle.x86_64_spaces.specs.SpaceCalls.{TakesFirst, IsMade, IsGivenUp}
 use Rattle.x86_64_spaces.specs.SpaceLayouts.{indices_of, HasSharedAlone}
+use Rattle.x86_64_tables.specs.FrameSegments.{are_in_order}
 use Rattle.x86_64_tables.specs.LentMemory.{numbered}
 use Rattle.x86_64_tables.specs.LentPool.{is_in, stacked}
 use Rattle.x86_64_tables.specs.Shifted.{shifted_places}
@@ -40,6 +41,10 @@ shared_in from to = indices_of (record { from = from; to = to })
 -- The layout of a hierarchy in the caller's tables.
 abbrev pub layout_given : Given → Layout
 layout_given h = direct_at h.levels (places_given h) h.root
+
+-- A hierarchy has levels, and its segments are in order.
+abbrev pub IsInOrder : Given → Type 0
+IsInOrder h = (0 < h.levels) × (are_in_order h.segments.now ≡ true)
 
 -- The layouts of hierarchies with these roots in the caller's tables.
 abbrev pub layouts_given : (first levels : ℕ) → (roots : List ℕ) → List Layout
@@ -160,7 +165,7 @@ RequestsOrNothingKeepSpaces = (own : List ℕ) (shared : ℕ → Bool) (spaces :
 -- its root at the shared indices are as before.
 abbrev pub ChangesKeepSpaces : Type 0
 ChangesKeepSpaces = (own : List ℕ) (shared : ℕ → Bool) (spaces : List Layout) (tables now : List (List ℕ)) (array : List ℕ) (free : ℕ)
-    → FitTogether own shared spaces (loan tables array free) → (h : Given) → 0 < h.levels → In spaces (layout_given h) → (call : Call) (answer : Answer) (status : ℕ)
+    → FitTogether own shared spaces (loan tables array free) → (h : Given) → IsInOrder h → In spaces (layout_given h) → (call : Call) (answer : Answer) (status : ℕ)
     → Changes (hierarchy_in h tables) call answer (hierarchy_in h now) status
     → KeepsRootEntries shared (layout_given h) (numbered tables) (numbered now) → FitTogether own shared spaces (loan now array free)
 
@@ -175,7 +180,7 @@ RangeMapsKeepSpaces = (own : List ℕ) (shared : ℕ → Bool) (spaces : List La
 -- entries of its root at the shared indices are as before.
 abbrev pub RangeChangesKeepSpaces : Type 0
 RangeChangesKeepSpaces = (own : List ℕ) (shared : ℕ → Bool) (spaces : List Layout) (tables now : List (List ℕ)) (array : List ℕ) (free : ℕ)
-    → FitTogether own shared spaces (loan tables array free) → (h : Given) → 0 < h.levels → In spaces (layout_given h) → (calls : List Call) (replies : List Reply)
+    → FitTogether own shared spaces (loan tables array free) → (h : Given) → IsInOrder h → In spaces (layout_given h) → (calls : List Call) (replies : List Reply)
     → range.ChangesRange (hierarchy_in h tables) calls replies (hierarchy_in h now)
     → KeepsRootEntries shared (layout_given h) (numbered tables) (numbered now) → FitTogether own shared spaces (loan now array free)
 
@@ -211,6 +216,6 @@ RangeMapsKeepOthers = (own : List ℕ) (shared : ℕ → Bool) (spaces : List La
 -- index, they fit together again, and the others keep their path maps.
 abbrev pub RangeChangesKeepOthers : Type 0
 RangeChangesKeepOthers = (own : List ℕ) (shared : ℕ → Bool) (spaces : List Layout) (tables now : List (List ℕ)) (array : List ℕ) (free : ℕ)
-    → FitTogether own shared spaces (loan tables array free) → (h : Given) → 0 < h.levels → In spaces (layout_given h) → (calls : List Call) (replies : List Reply)
+    → FitTogether own shared spaces (loan tables array free) → (h : Given) → IsInOrder h → In spaces (layout_given h) → (calls : List Call) (replies : List Reply)
     → range.ChangesRange (hierarchy_in h tables) calls replies (hierarchy_in h now) → AllCalls h.levels calls → AllByRecursion (Avoids h.levels shared) calls
     → FitTogether own shared spaces (loan now array free) × OthersStay spaces h.root (numbered tables) (numbered now)

@@ -1,13 +1,15 @@
 -- What a caller hands in: which hierarchy it is, and which status says what is wrong with it.
-use Rattle.std.specs.Prelude.{◌≡◌, ℕ, ◌-◌, ◌/◌, ◌%◌, ◌^◌, ◌==◌, ◌&&◌, ◌||◌, nat_le, nat_lt, Bool, cond, List, Option, Some, None}
+use Rattle.std.specs.Prelude.{◌≡◌, ℕ, ◌-◌, ◌/◌, ◌%◌, ◌^◌, ◌==◌, ◌&&◌, ◌||◌, nat_le, nat_lt, Bool, cond, List, [], ◌∷◌, Option, Some, None}
 use Rattle.std.specs.Option.{option_or}
 use Rattle.x86_64_model.specs.Hierarchy as mapper
 use Rattle.x86_64_model.specs.Memory.{Memory, Places}
 use Rattle.x86_64_model.specs.Path.{path_at}
 use Rattle.x86_64_model.specs.Position.{lower_half, position_count}
 use Rattle.x86_64_mappers.specs.Layouts.{owned_at}
+use Rattle.x86_64_tables.specs.FrameSegments.{are_in_order, segment_places}
 use Rattle.x86_64_tables.specs.LentMemory.{numbered}
 use Rattle.x86_64_tables.specs.Shifted.{shifted_places}
+use Rattle.x86_64_tables.specs.declared.phys_memory.frame_segment.FrameSegment.{FrameSegment}
 use Rattle.x86_64_c.specs.Status as status
 use Rattle.x86_64_c.specs.declared.arguments.Hierarchy.{Hierarchy}
 use Rattle.x86_64_c.specs.declared.arguments.Located.{Located}
@@ -15,9 +17,15 @@ use Rattle.x86_64_c.specs.declared.arguments.AnyPage.{AnyPage}
 use Rattle.x86_64_c.specs.declared.arguments.AnyPage.TheVariants.{Of4KiB, Of2MiB, Of1GiB}
 use Rattle.x86_64_c.specs.declared.arguments.Page.{Page}
 
--- The places of frames in the caller's tables: table i is that of the frame of number first + i.
+-- The places of frames in an array of tables. Without segments table i is that of the frame of number first + i, and with some each
+-- says which tables its frames have.
+abbrev pub places_by : (first : ℕ) → List FrameSegment → Places
+places_by first [] = shifted_places first
+places_by first (segment ∷ others) = segment_places (segment ∷ others)
+
+-- The places of frames in the caller's tables.
 abbrev pub places_given : Hierarchy → Places
-places_given h = shifted_places h.first
+places_given h = places_by h.first h.segments.now
 
 -- The hierarchy in the caller's tables.
 abbrev pub hierarchy_in : Hierarchy → (tables : List (List ℕ)) → mapper.Hierarchy (Unit {0})
@@ -43,10 +51,15 @@ has_table places count f = starts_frame 4096 f && (places.covers f && nat_lt (pl
 abbrev pub wrong_root : Places → (count root : ℕ) → Option ℕ
 wrong_root places count root = unless (has_table places count root) status.bad_root
 
--- What is wrong with a hierarchy in an array of so many tables: its number of levels, or else its root.
+-- What is wrong with segments.
+abbrev pub wrong_segments : List FrameSegment → Option ℕ
+wrong_segments segments = unless (are_in_order segments) status.bad_segments
+
+-- What is wrong with a hierarchy in an array of so many tables: its number of levels, or else its segments, or else its root.
 abbrev pub bad_hierarchy : Hierarchy → (count : ℕ) → Option ℕ
 bad_hierarchy h count =
-    option_or (unless ((h.levels == 4) || (h.levels == 5)) status.bad_levels) (wrong_root (places_given h) count h.root)
+    option_or (unless ((h.levels == 4) || (h.levels == 5)) status.bad_levels)
+    (option_or (wrong_segments h.segments.now) (wrong_root (places_given h) count h.root))
 
 -- Whether a raw value of 64 bits is canonical.
 abbrev pub is_canonical : (L value : ℕ) → Bool

@@ -6,18 +6,20 @@ ghost use Rattle.x86_64_c.specs.Status as status;
 use crate::status;
 use x86_64::structures::paging::mapper::PageTableFrameMapping;
 use x86_64::structures::paging::{PageIn, PageSize, PhysFrame, Size1GiB, Size2MiB, Size4KiB};
-use x86_64::{LevelCount, PhysAddr, VirtAddrIn};
+use x86_64::{FrameSegment, LevelCount, PhysAddr, VirtAddrIn};
 
 /// A hierarchy of page tables in an array of tables.
 #[derive(Drop)]
 #[repr(C)]
-pub struct Hierarchy {
-    /// The number of the frame that table 0 is: table i is that of the frame of number `first` + i.
+pub struct Hierarchy<'a> {
+    /// Without segments the number of the frame that table 0 is: table i is that of the frame of number `first` + i.
     pub first: u64,
     /// The physical address of the root's frame.
     pub root: u64,
     /// The number of levels of tables: 4 or 5.
     pub levels: u64,
+    /// Which frames have which tables, for a memory with holes. None: see `first`.
+    pub segments: &'a [FrameSegment],
 }
 
 /// A page.

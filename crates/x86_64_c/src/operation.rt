@@ -1,15 +1,18 @@
 //! The way in, which each operation on the caller's tables shares
-ghost use Rattle.std.specs.Prelude.{◌≡◌, ℕ, List, length, Option, Some, None, IfOk, IfErr, OnErr};
+ghost use Rattle.std.specs.Prelude.{◌≡◌, ℕ, true, List, length, Option, Some, None, IfOk, IfErr, OnErr};
 ghost use Rattle.std.specs.FinMap.{len};
 ghost use Rattle.x86_64_c.specs.Arguments as given;
 ghost use Rattle.x86_64_c.specs.private.Operations as operations;
 ghost use Rattle.x86_64_model.specs.Hierarchy as mapper;
+ghost use Rattle.x86_64_tables.specs.FrameSegments.{are_in_order};
 
 use crate::arguments::{Hierarchy, Located, locate};
 use crate::status;
 use x86_64::structures::paging::PageTable;
 use x86_64::structures::paging::mapper::PageTableFrameMapping;
-use x86_64::{FiveLevels, FourLevels, LentMemory, LevelCount, ShiftMapping, TableMemory};
+use x86_64::{
+    FiveLevels, FourLevels, LentMemory, LevelCount, SegmentMapping, ShiftMapping, TableMemory,
+};
 
 /// An operation on a hierarchy, which may write into an array that the caller lends.
 pub trait Operation {
@@ -95,8 +98,14 @@ fn enter_in<L: LevelCount, O: Operation>(
         (given.hierarchy_in hierarchy.now tables.old) array.old
         (given.hierarchy_in hierarchy.now tables.new) array.new out) }
 {
-    let mapping = ShiftMapping::new(hierarchy.first);
-    enter_by::<L, _, O>(hierarchy, mapping, tables, array, operation)
+    if hierarchy.segments.is_empty() {
+        let mapping = ShiftMapping::new(hierarchy.first);
+        return enter_by::<L, _, O>(hierarchy, mapping, tables, array, operation);
+    }
+    match SegmentMapping::new(hierarchy.segments) {
+        Ok(mapping) => enter_by::<L, _, O>(hierarchy, mapping, tables, array, operation),
+        Err(_) => Err(status::BAD_SEGMENTS),
+    }
 }
 
 /// Does an operation on a hierarchy with `L` levels of tables, whose frames lie where a mapping says.
@@ -109,6 +118,7 @@ fn enter_by<L: LevelCount, P: PageTableFrameMapping + Copy, O: Operation>(
     operation: &O,
 ) -> Result<O::Out, u32>
     requires levels { hierarchy.now.levels ≡ L.LEVELS }
+    requires segments { are_in_order hierarchy.now.segments.now ≡ true }
     requires places { P.places mapping ≡ given.places_given hierarchy.now }
     requires may { operations.MayEnter (O.wrong operation.now) (O.may operation.now) hierarchy.now
         tables.old array.old }
