@@ -655,7 +655,7 @@ typedef struct x64_outcome {
  * Tests
  */
 
-/* x64_spaces_fit, of this space alone: tests whether all calls on the space may be made with the
+/* x64_spaces_fit_in, of this space alone: tests whether all calls on the space may be made with the
  * pool. `marks` is working memory, with a mark for each table of the array. Returns X64_OK;
  * X64_NOT_VALID, also if the root isn't in the array; X64_BAD_LEVELS; X64_BAD_ARRAY;
  * X64_BAD_INDICES. */
@@ -663,8 +663,8 @@ X64_NODISCARD
 static inline uint32_t x64_space_fits(const x64_space *space, const x64_pool *pool, bool *marks,
                                       size_t mark_count);
 
-/* x64_spaces_fit, of all spaces that share entries with this one: these are their roots, with its
- * own among them. With several pools, test each. */
+/* x64_spaces_fit_in, of all spaces that share entries with this one: these are their roots, with
+ * its own among them. With several pools, test each. */
 X64_NODISCARD
 static inline uint32_t x64_space_all_fit(const x64_space *space, const uint64_t *roots,
                                          size_t root_count, const x64_pool *pool, bool *marks,
@@ -1075,6 +1075,20 @@ uint32_t x64_spaces_fit(uint64_t first, uint64_t levels, const x64_table *tables
                         size_t table_count, const uint64_t *roots, size_t root_count,
                         uint64_t shared_from, uint64_t shared_to, const uint64_t *pool,
                         size_t capacity, size_t free_count, bool *marks, size_t mark_count);
+
+/*
+ * Tests the same, with the number of levels of a hierarchy and in its memory, which may have
+ * segments. The root of the hierarchy isn't looked at.
+ *
+ * Condition: that of x64_spaces_fit.
+ *
+ * Returns what x64_spaces_fit returns, or X64_BAD_SEGMENTS.
+ */
+X64_NODISCARD
+uint32_t x64_spaces_fit_in(const x64_hierarchy *hierarchy, const x64_table *tables,
+                           size_t table_count, const uint64_t *roots, size_t root_count,
+                           uint64_t shared_from, uint64_t shared_to, const uint64_t *pool,
+                           size_t capacity, size_t free_count, bool *marks, size_t mark_count);
 
 /*
  * CALLS THAT CHANGE TABLES
@@ -1609,9 +1623,10 @@ static inline uint32_t x64_space_fits(const x64_space *space, const x64_pool *po
 static inline uint32_t x64_space_all_fit(const x64_space *space, const uint64_t *roots,
                                          size_t root_count, const x64_pool *pool, bool *marks,
                                          size_t mark_count) {
-    return x64_spaces_fit(space->first, space->levels, space->tables, space->table_count, roots,
-                          root_count, space->shared_from, space->shared_to, pool->frames,
-                          pool->capacity, pool->free_count, marks, mark_count);
+    x64_hierarchy hierarchy = x64_space_hierarchy(space);
+    return x64_spaces_fit_in(&hierarchy, space->tables, space->table_count, roots, root_count,
+                             space->shared_from, space->shared_to, pool->frames, pool->capacity,
+                             pool->free_count, marks, mark_count);
 }
 
 static inline uint32_t x64_space_is_valid(const x64_space *space, bool *marks, size_t mark_count) {

@@ -138,6 +138,7 @@ enum function {
     IS_VALID,
     POOL_FITS,
     SPACES_FIT,
+    SPACES_FIT_IN,
     ACCESS,
     MAP,
     MAP_AS_MAPPER,
@@ -158,9 +159,10 @@ enum function {
 
 static const char *const names[FUNCTIONS] = {
     "x64_page_walk",          "x64_walk",      "x64_entries",      "x64_translate",       "x64_mappings",  "x64_list_range",
-    "x64_is_valid",           "x64_pool_fits", "x64_spaces_fit",   "x64_access",          "x64_map",       "x64_map_as_mapper",
-    "x64_prepare",            "x64_unmap",     "x64_update_flags", "x64_set_table_flags", "x64_map_range", "x64_unmap_range",
-    "x64_update_flags_range", "x64_clean_up",  "x64_take_range",   "x64_change_range",    "x64_new_space", "x64_give_up_space",
+    "x64_is_valid",      "x64_pool_fits",  "x64_spaces_fit",         "x64_spaces_fit_in", "x64_access",       "x64_map",
+    "x64_map_as_mapper", "x64_prepare",    "x64_unmap",              "x64_update_flags",  "x64_set_table_flags", "x64_map_range",
+    "x64_unmap_range",   "x64_update_flags_range", "x64_clean_up",   "x64_take_range",    "x64_change_range", "x64_new_space",
+    "x64_give_up_space",
 };
 
 /* Returns the arguments that rows change. */
@@ -240,6 +242,8 @@ static uint32_t call(enum function function, const struct arguments *a) {
     case SPACES_FIT:
         return x64_spaces_fit(first, a->levels, tables, n, roots, a->root_count, from, to, pool, a->capacity, a->free_count,
                               marks, a->mark_count);
+    case SPACES_FIT_IN:
+        return x64_spaces_fit_in(h, tables, n, roots, a->root_count, from, to, pool, a->capacity, a->free_count, marks, a->mark_count);
     case ACCESS:
         return x64_access(h, tables, n, &controls, &access, &world.outcome);
     case MAP:
@@ -287,11 +291,15 @@ static const struct row levels_rows[] = {
         SET(shared_to, 513), SET(entry_capacity, 0)),
 };
 
-/* Bad arguments of every function that takes a hierarchy. */
-static const struct row hierarchies[] = {
+/* Bad segments of every function that takes a hierarchy. */
+static const struct row segment_rows[] = {
     ROW("segments that overlap", X64_BAD_SEGMENTS, SET(bad_segments, 1)),
     ROW("bad segments before all others", X64_BAD_SEGMENTS, SET(bad_segments, 1), SET(root_offset, 8), SET(capacity, 0), SET(mark_count, 0),
         SET(address, NOT_CANONICAL), SET(size, 0), SET(kind, 3), SET(shared_to, 513), SET(entry_capacity, 0)),
+};
+
+/* Bad roots of every function that takes a hierarchy. */
+static const struct row hierarchies[] = {
     ROW("a root that is no multiple of 4096", X64_BAD_ROOT, SET(root_offset, 8)),
     ROW("a root with a flag", X64_BAD_ROOT, SET(root_offset, 1)),
     ROW("a root beyond the tables", X64_BAD_ROOT, SET(root_offset, (TABLES - 1) * 4096)),
@@ -1259,8 +1267,9 @@ static void try_flushes(void) {
 
 /* Checks that a function met just the statuses that the header says it may return, which come after X64_OK and end with it. */
 static void check_statuses(enum function function, const uint32_t *statuses) {
-    const bool is_one = function != SPACES_FIT;
-    bool may[STATUSES] = {[X64_OK] = true, [X64_BAD_LEVELS] = true, [X64_BAD_SEGMENTS] = is_one, [X64_BAD_ROOT] = is_one};
+    bool may[STATUSES] = {[X64_OK] = true, [X64_BAD_LEVELS] = true};
+    may[X64_BAD_SEGMENTS] = function != SPACES_FIT;
+    may[X64_BAD_ROOT] = function != SPACES_FIT && function != SPACES_FIT_IN;
     for (; *statuses != X64_OK; statuses++)
         may[*statuses] = true;
     for (uint32_t status = 0; status < STATUSES; status++)
@@ -1274,8 +1283,10 @@ int main(void) {
     for (int function = 0; function < FUNCTIONS; function++) {
         TRY((enum function)function, levels_rows);
         if (function != SPACES_FIT)
+            TRY((enum function)function, segment_rows);
+        if (function != SPACES_FIT && function != SPACES_FIT_IN)
             TRY((enum function)function, hierarchies);
-        if (function == SPACES_FIT || function > CHANGE_RANGE)
+        if (function == SPACES_FIT || function == SPACES_FIT_IN || function > CHANGE_RANGE)
             TRY((enum function)function, indices);
     }
     for (int function = MAP; function < CLEAN_UP; function++)
@@ -1294,6 +1305,7 @@ int main(void) {
     TRY(POOL_FITS, is_valid);
     TRY(POOL_FITS, pool_fits);
     TRY(SPACES_FIT, spaces_fit);
+    TRY(SPACES_FIT_IN, spaces_fit);
     TRY(ACCESS, access_rows);
     TRY(MAP, map);
     TRY(MAP, refused_map);
@@ -1333,6 +1345,7 @@ int main(void) {
         [UPDATE_FLAGS] = {X64_NOT_ALLOWED, X64_PARENT_ENTRY_HUGE_PAGE, X64_PAGE_NOT_MAPPED, X64_BAD_PAGE},
         [SET_TABLE_FLAGS] = {X64_NOT_ALLOWED, X64_PARENT_ENTRY_HUGE_PAGE, X64_PAGE_NOT_MAPPED, X64_BAD_PAGE},
         [SPACES_FIT] = {X64_NOT_VALID, X64_BAD_ARRAY, X64_BAD_INDICES},
+        [SPACES_FIT_IN] = {X64_NOT_VALID, X64_BAD_ARRAY, X64_BAD_INDICES},
         [MAP_RANGE] = {X64_NOT_ALLOWED, X64_FRAME_ALLOCATION_FAILED, X64_PARENT_ENTRY_HUGE_PAGE, X64_PAGE_ALREADY_MAPPED,
                        X64_BAD_ARRAY, X64_BAD_PAGE, X64_BAD_FRAME},
         [UNMAP_RANGE] = {X64_MORE, X64_BAD_PAGE},

@@ -20,7 +20,6 @@ use Rattle.x86_64_spaces.specs.Room.{spaces_in, ShareWithRoom}
 use Rattle.x86_64_spaces.specs.SpaceLayouts.{indices_of, space_layout, layouts_of, roots_of, spaces_at}
 use Rattle.x86_64_tables.specs.LentMemory.{numbered}
 use Rattle.x86_64_tables.specs.LentPool.{is_in, stacked}
-use Rattle.x86_64_tables.specs.Shifted.{shifted_places}
 use Rattle.x86_64_c.specs.AddressSpaces.{IsInOrder, layout_given, layouts_given, shared_in, space_at, FitTogether, SpacesFit, EachMayBeUsed, RequestsKeepSpaces, RequestsOrNothingKeepSpaces, ChangesKeepSpaces, OthersStay, RequestsKeepOthers, RequestsOrNothingKeepOthers}
 use Rattle.x86_64.specs.Asked.{machine_call}
 use Rattle.x86_64.specs.Replies.{Reply}
@@ -36,58 +35,57 @@ use Rattle.x86_64_c.proofs.EntryChanges.{gives, plain}
 
 -- ---- the test
 
-module _ (first levels : ℕ) (m : Memory) (roots : List ℕ) where
-  same_layouts : layouts_of levels (shifted_places first) m (spaces_at roots) ≡ layouts_given first levels roots
-  same_layouts = map-map (space_layout levels (shifted_places first) m) space_at roots
+module _ (places : Places) (levels : ℕ) (m : Memory) (roots : List ℕ) where
+  same_layouts : layouts_of levels places m (spaces_at roots) ≡ layouts_given places levels roots
+  same_layouts = map-map (space_layout levels places m) space_at roots
 
   same_roots : roots_of (spaces_at roots) ≡ roots
   same_roots = map-map (λ (s : Space). s.root) space_at roots ∙ map-id roots
 
-module _ (shared : ℕ → Bool) (first levels : ℕ) (roots : List ℕ) (lent : Loan) where
+module _ (shared : ℕ → Bool) (places : Places) (levels : ℕ) (roots : List ℕ) (lent : Loan) where
   abbrev Tested : Type 0
-  Tested = ShareWithRoom shared (spaces_in levels (shifted_places first) (numbered lent.tables) (spaces_at roots)) (length lent.array) (stacked lent.array lent.free)
+  Tested = ShareWithRoom shared (spaces_in levels places (numbered lent.tables) (spaces_at roots)) (length lent.array) (stacked lent.array lent.free)
 
-  given_fit : Tested → SpacesFit shared first levels roots lent
+  given_fit : Tested → SpacesFit shared places levels roots lent
   given_fit x = record {
-    each_once = subst EachOnce (same_roots first levels (numbered lent.tables) roots) x.0;
+    each_once = subst EachOnce (same_roots places levels (numbered lent.tables) roots) x.0;
     own = x.1.own;
-    own_roots = λ root i. x.1.roots (direct_at levels (shifted_places first) root)
-        (subst (λ ls. In ls (direct_at levels (shifted_places first) root)) (sym (same_layouts first levels (numbered lent.tables) roots))
-        (in_map (λ root. direct_at levels (shifted_places first) root) roots root i));
+    own_roots = λ root i. x.1.roots (direct_at levels places root)
+        (subst (λ ls. In ls (direct_at levels places root)) (sym (same_layouts places levels (numbered lent.tables) roots))
+        (in_map (λ root. direct_at levels places root) roots root i));
     fit = record {
       room = x.1.few;
-      are_spaces = subst (AreSpaces shared (numbered lent.tables) (is_in x.1.own) (stacked lent.array lent.free)) (same_layouts first levels (numbered lent.tables) roots) x.1.spaces;
+      are_spaces = subst (AreSpaces shared (numbered lent.tables) (is_in x.1.own) (stacked lent.array lent.free)) (same_layouts places levels (numbered lent.tables) roots) x.1.spaces;
     };
   }
 
-  tested_fit : SpacesFit shared first levels roots lent → Tested
+  tested_fit : SpacesFit shared places levels roots lent → Tested
   tested_fit x = (
-    subst EachOnce (sym (same_roots first levels (numbered lent.tables) roots)) x.each_once,
+    subst EachOnce (sym (same_roots places levels (numbered lent.tables) roots)) x.each_once,
     record {
       own = x.own;
       few = x.fit.room;
       roots = λ a i.
-          let from = from_map (λ root. direct_at levels (shifted_places first) root) roots a
-          (subst (λ ls. In ls a) (same_layouts first levels (numbered lent.tables) roots) i) in
+          let from = from_map (λ root. direct_at levels places root) roots a
+          (subst (λ ls. In ls a) (same_layouts places levels (numbered lent.tables) roots) i) in
           subst (λ (a : Layout). is_in x.own a.root ≡ true) from.2 (x.own_roots from.0 from.1);
-      spaces = subst (AreSpaces shared (numbered lent.tables) (is_in x.own) (stacked lent.array lent.free)) (sym (same_layouts first levels (numbered lent.tables) roots)) x.fit.are_spaces;
+      spaces = subst (AreSpaces shared (numbered lent.tables) (is_in x.own) (stacked lent.array lent.free)) (sym (same_layouts places levels (numbered lent.tables) roots)) x.fit.are_spaces;
     },
   )
 
-  fits_given : Tested ↔ SpacesFit shared first levels roots lent
+  fits_given : Tested ↔ SpacesFit shared places levels roots lent
   fits_given = (given_fit, tested_fit)
 
 -- what the test tells, said of what the caller handed in
-pub told : (first levels from to : ℕ) (roots : List ℕ) (lent : Loan) (shared : SharedIndices) (places : Places) (m : Memory) → shared ≡ record { from = from; to = to } → places ≡ shifted_places first → m ≡ numbered lent.tables
+pub told : (places : Places) (levels from to : ℕ) (roots : List ℕ) (lent : Loan) (shared : SharedIndices) (m : Memory) → shared ≡ record { from = from; to = to } → m ≡ numbered lent.tables
     → (passed : Bool) (status : ℕ) → status ≡ test_status passed
     → (IsTrue passed ↔ ShareWithRoom (indices_of shared) (spaces_in levels places m (spaces_at roots)) (length lent.array) (stacked lent.array lent.free))
-    → TellsWhether (SpacesFit (shared_in from to) first levels roots lent) status
-told first levels from to roots lent shared places m same at tables passed status is means =
+    → TellsWhether (SpacesFit (shared_in from to) places levels roots lent) status
+told places levels from to roots lent shared m same tables passed status is means =
     tells passed status is
-    (subst (λ m. IsTrue passed ↔ ShareWithRoom (shared_in from to) (spaces_in levels (shifted_places first) m (spaces_at roots)) (length lent.array) (stacked lent.array lent.free)) tables
-    (subst (λ places. IsTrue passed ↔ ShareWithRoom (shared_in from to) (spaces_in levels places m (spaces_at roots)) (length lent.array) (stacked lent.array lent.free)) at
-    (subst (λ s. IsTrue passed ↔ ShareWithRoom (indices_of s) (spaces_in levels places m (spaces_at roots)) (length lent.array) (stacked lent.array lent.free)) same means)))
-    (fits_given (shared_in from to) first levels roots lent)
+    (subst (λ m. IsTrue passed ↔ ShareWithRoom (shared_in from to) (spaces_in levels places m (spaces_at roots)) (length lent.array) (stacked lent.array lent.free)) tables
+    (subst (λ s. IsTrue passed ↔ ShareWithRoom (indices_of s) (spaces_in levels places m (spaces_at roots)) (length lent.array) (stacked lent.array lent.free)) same means))
+    (fits_given (shared_in from to) places levels roots lent)
 
 -- ---- calls on one of them
 
