@@ -363,8 +363,9 @@ extern "C" {
  *
  * X64_BAD_LEVELS and the statuses after it say that an argument is wrong; nothing has changed.
  * Arguments are checked before anything else: first the levels, the segments and the root of the
- * hierarchy, then arrays, then shared indices, a level or the kind of an access with the number of bits of physical
- * addresses, then addresses, pages and frames in the order in which they are passed.
+ * hierarchy, then arrays, then shared indices, a level or the kind of an access with the number of
+ * bits of physical addresses, then addresses, pages and frames in the order in which they are
+ * passed.
  */
 enum {
     X64_OK = 0,                      /* the call was done */
@@ -944,7 +945,8 @@ uint32_t x64_flush_between(uint64_t level, uint64_t old, uint64_t word);
 /*
  * CALLS THAT READ
  *
- * Each may also return X64_BAD_LEVELS and, if it is passed a hierarchy, X64_BAD_ROOT.
+ * Each may also return X64_BAD_LEVELS and, if it is passed a hierarchy, X64_BAD_SEGMENTS or
+ * X64_BAD_ROOT (but x64_spaces_fit_in, which has no root).
  */
 
 /*
@@ -1093,8 +1095,9 @@ uint32_t x64_spaces_fit_in(const x64_hierarchy *hierarchy, const x64_table *tabl
 /*
  * CALLS THAT CHANGE TABLES
  *
- * Each may also return X64_BAD_LEVELS or X64_BAD_ROOT. Words change only in the root, in the tables
- * below it and, if a map or x64_new_space makes tables, in frames that it takes from the pool.
+ * Each may also return X64_BAD_LEVELS, X64_BAD_SEGMENTS or X64_BAD_ROOT. Words change only in the
+ * root, in the tables below it and, if a map or x64_new_space makes tables, in frames that it takes
+ * from the pool.
  */
 
 /*

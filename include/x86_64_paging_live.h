@@ -92,6 +92,11 @@ extern "C" {
     (X64_ADDRESS | X64_WRITE_THROUGH | X64_NO_CACHE | X64_HUGE_PAGE | X64_GLOBAL |                 \
      UINT64_C(0x7800000000000000))
 
+/* Returns whether a status says that a hierarchy is wrong: its levels, its segments or its root. */
+static inline bool x64_is_bad_hierarchy(uint32_t status) {
+    return status == X64_BAD_LEVELS || status == X64_BAD_SEGMENTS || status == X64_BAD_ROOT;
+}
+
 /* Returns whether a word at a level names a table, present or not. */
 static inline bool x64_names_table(uint64_t level, uint64_t word) {
     return level > 1 && word != 0 && !(word & X64_HUGE_PAGE);
@@ -189,8 +194,8 @@ static inline uint32_t x64_space_entries_live(const x64_space *space, uint64_t a
  * Condition: the hierarchy is valid. WHEN says above what may run meanwhile.
  *
  * Returns X64_OK if the entry has X64_PRESENT; X64_NOT_MAPPED if it lacks it, and *entry is
- * written, too; X64_BAD_ADDRESS; X64_BAD_LEVELS; X64_BAD_ROOT; X64_NOT_VALID, if the hierarchy
- * isn't and the walk meets this.
+ * written, too; X64_BAD_ADDRESS; X64_BAD_LEVELS; X64_BAD_SEGMENTS; X64_BAD_ROOT; X64_NOT_VALID, if
+ * the hierarchy isn't and the walk meets this.
  */
 X64_NODISCARD
 static inline uint32_t x64_space_find_entry(const x64_space *space, uint64_t address,
@@ -215,7 +220,8 @@ static inline uint32_t x64_space_find_entry(const x64_space *space, uint64_t add
  *   X64_PAGE_NOT_MAPPED          if an entry above the page lacks X64_PRESENT
  *   X64_PARENT_ENTRY_HUGE_PAGE   if an entry above the page has X64_HUGE_PAGE, present or not
  *   X64_HAS_TABLE                if the entry of a page of 2 MiB or 1 GiB names a table
- *   X64_BAD_PAGE; X64_BAD_LEVELS; X64_BAD_ROOT; X64_NOT_VALID as x64_space_find_entry
+ *   X64_BAD_PAGE; and X64_BAD_LEVELS; X64_BAD_SEGMENTS; X64_BAD_ROOT; X64_NOT_VALID as
+ *                                x64_space_find_entry
  */
 X64_NODISCARD
 static inline uint32_t x64_space_find_page(const x64_space *space, uint64_t page, uint64_t size,
@@ -394,7 +400,7 @@ static inline uint32_t x64_space_change_page(const x64_space *space, uint64_t pa
  *   X64_NOT_VALID                as x64_space_find_entry; *count of them are taken
  *   X64_BAD_PAGE                 if `first` or `last` isn't a canonical multiple of 4 KiB, or they
  *                                are in different halves of the address space
- *   X64_BAD_LEVELS; X64_BAD_ROOT
+ *   X64_BAD_LEVELS; X64_BAD_SEGMENTS; X64_BAD_ROOT
  * X64_BAD_ statuses write nothing, and only X64_MORE and X64_PARENT_ENTRY_HUGE_PAGE write *next.
  */
 X64_NODISCARD
@@ -403,7 +409,7 @@ static inline uint32_t x64_space_take_range_live(const x64_space *space, uint64_
                                                  size_t *count, uint64_t *next) {
     x64_entry entry;
     uint32_t status = x64_space_find_entry(space, first, &entry);
-    if (status == X64_BAD_LEVELS || status == X64_BAD_ROOT)
+    if (x64_is_bad_hierarchy(status))
         return status;
     if (status == X64_BAD_ADDRESS || !x64_is_canonical(space->levels, last) || first % 4096 != 0 ||
         last % 4096 != 0 || (first ^ last) >> 63 != 0)
@@ -566,7 +572,7 @@ static inline uint32_t x64_space_split(const x64_space *space, x64_pool *pool, u
  *   X64_NOT_ALLOWED              if the pages below aren't the parts of the word, or it lacks
  *                                X64_HUGE_PAGE, or its address isn't a multiple of the size
  *   X64_BAD_PAGE                 also for 4 KiB
- *   X64_BAD_LEVELS; X64_BAD_ROOT; X64_NOT_VALID as x64_space_find_entry
+ *   X64_BAD_LEVELS; X64_BAD_SEGMENTS; X64_BAD_ROOT; X64_NOT_VALID as x64_space_find_entry
  */
 X64_NODISCARD
 static inline uint32_t x64_space_join(const x64_space *space, uint64_t page, uint64_t size,
@@ -575,7 +581,7 @@ static inline uint32_t x64_space_join(const x64_space *space, uint64_t page, uin
     size_t count = 0;
     uint64_t level = x64_level_of(size);
     uint32_t status = x64_space_entries_live(space, page, entries, &count);
-    if (status == X64_BAD_LEVELS || status == X64_BAD_ROOT)
+    if (x64_is_bad_hierarchy(status))
         return status;
     if (status == X64_BAD_ADDRESS || level < 2 || page % size != 0)
         return X64_BAD_PAGE;
@@ -703,7 +709,7 @@ static inline uint32_t x64_access_live(const x64_hierarchy *hierarchy, x64_table
     x64_arrival seen;
     uint32_t status = x64_entries_live(hierarchy, tables, table_count, request->address,
                                        seen.entries, &seen.count);
-    if (status == X64_BAD_LEVELS || status == X64_BAD_SEGMENTS || status == X64_BAD_ROOT)
+    if (x64_is_bad_hierarchy(status))
         return status;
     if (status == X64_BAD_ADDRESS)
         seen.count = 0; /* x64_access looks at the kind of the access before */

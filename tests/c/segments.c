@@ -162,6 +162,13 @@ static void try_segments(uint32_t wanted, x64_segment first, x64_segment second)
     CHECK(x64_space_is_valid(&holed.space, marks, TABLES) == wanted);
     CHECK(x64_space_fits(&holed.space, &holed.pool, marks, TABLES) == wanted);
     CHECK(x64_space_entries_live(&holed.space, 0, entries, &count) == wanted);
+    if (wanted != X64_OK) {
+        x64_taken taken[1];
+        uint64_t next, frame;
+        CHECK(x64_space_take_range_live(&holed.space, 0, 0x1000, taken, 1, &count, &next) == wanted);
+        CHECK(x64_space_split(&holed.space, &holed.pool, 0, X64_SIZE_2MIB) == wanted);
+        CHECK(x64_space_join(&holed.space, 0, X64_SIZE_2MIB, 0, &frame) == wanted);
+    }
 }
 
 #define TRY(wanted, a, b, c, d, e, f)                                                                                                    \
