@@ -24,7 +24,7 @@
  *     static uint64_t frames[64];
  *     static bool marks[64];
  *     int main(void) {
- *         x64_space space = {tables, 64, 0x100, 0x100000, 4, 0, 0};
+ *         x64_space space = {tables, 64, 0x100, 0x100000, 4, 0, 0, NULL, 0};
  *         x64_pool pool = {frames, 64, 0};
  *         for (uint64_t number = 0x101; number < 0x140; number++)
  *             frames[pool.free_count++] = number * 4096;
@@ -54,6 +54,15 @@
  * `tables[i]` is the frame with the number `first + i`. So entries name tables by their physical
  * addresses, and no address is used as a pointer. A frame outside the array can be mapped, but it
  * can't hold a table.
+ *
+ * A memory with holes has segments (x64_segment) in place of `first`: each says which frames have
+ * which tables of the array. A guest whose memory goes on above 4 GiB has two, for example, and a
+ * kernel one for each piece of memory that it maps. Frames that no segment has hold no tables. The
+ * segments are in order: each ends before the next begins, and no table is in two. If they aren't,
+ * all calls return X64_BAD_SEGMENTS; each call compares any two, so have few. A frame of the first
+ * segment is found at once, others by binary search. The segments must stay as they are during a
+ * call, and which table a frame has must never change. Without segments (segment_count is 0)
+ * `first` counts, and calls take as long as if there were none.
  *
  * All addresses, sizes and offsets are in bytes. Virtual addresses must be canonical: with four
  * levels bits 48 to 63 are copies of bit 47, with five levels bits 57 to 63 are copies of bit 56.
@@ -359,9 +368,10 @@ extern "C" {
  * X64_CHANGED and X64_SHARED_ENTRY are returned by inline functions alone.
  *
  * X64_BAD_LEVELS and the statuses after it say that an argument is wrong; nothing has changed.
- * Arguments are checked before anything else: first the levels and the root of the hierarchy, then
- * arrays, then shared indices, a level or the kind of an access with the number of bits of physical
- * addresses, then addresses, pages and frames in the order in which they are passed.
+ * Arguments are checked before anything else: first the levels, the segments and the root of the
+ * hierarchy, then arrays, then shared indices, a level or the kind of an access with the number of
+ * bits of physical addresses, then addresses, pages and frames in the order in which they are
+ * passed.
  */
 enum {
     X64_OK = 0,                      /* the call was done */
@@ -388,7 +398,8 @@ enum {
     X64_BAD_PAGE = 20,    /* the size isn't one of the three, or the start no canonical multiple */
     X64_BAD_FRAME = 21,   /* the frame isn't a multiple of the page's size below 2^52 */
     X64_BAD_ACCESS = 22,  /* the kind isn't one of the three, or physical_bits isn't 32 to 52 */
-    X64_BAD_INDICES = 23  /* shared_from > shared_to, or shared_to > 512 */
+    X64_BAD_INDICES = 23, /* shared_from > shared_to, or shared_to > 512 */
+    X64_BAD_SEGMENTS = 24 /* a segment isn't before the next, or has its tables, or is too long */
 };
 
 /* Returns the name of a status, as "X64_OK", or "unknown status" if no status has this number. */
@@ -442,6 +453,8 @@ static inline const char *x64_status_name(uint32_t status) {
         return "X64_BAD_ACCESS";
     case X64_BAD_INDICES:
         return "X64_BAD_INDICES";
+    case X64_BAD_SEGMENTS:
+        return "X64_BAD_SEGMENTS";
     default:
         return "unknown status";
     }
@@ -501,15 +514,25 @@ typedef struct x64_table {
 } x64_table;
 
 
+/* Frames that have tables: the frame with the number first + i has tables[place + i], for each i
+ * below count. */
+typedef struct x64_segment {
+    uint64_t first; /* the number of the first frame */
+    uint64_t count; /* how many they are; first + count is below 2^64 */
+    uint64_t place; /* the index of the first frame's table; place + count is below 2^64 */
+} x64_segment;
+
 /* A space: what a root maps. Its fields stay as they are once it is made. */
 typedef struct x64_space {
     x64_table *tables;    /* the tables */
     size_t table_count;   /* how many they are */
-    uint64_t first;       /* the number of the frame that tables[0] is */
+    uint64_t first;       /* the number of the frame that tables[0] is, if there are no segments */
     uint64_t root;        /* the physical address of the root table: CR3 without its flags */
     uint64_t levels;      /* the number of levels of tables: 4 or 5 */
     uint64_t shared_from; /* the first index of the root whose entry other spaces share */
     uint64_t shared_to;   /* the first index after it whose entry they don't share */
+    const x64_segment *segments; /* which frames have which tables, for a memory with holes */
+    size_t segment_count;        /* how many segments there are: with 0 `first` counts */
 } x64_space;
 
 /* A pool: a stack of frames that may become tables. The last free one is handed out first. */
@@ -521,9 +544,11 @@ typedef struct x64_pool {
 
 /* A hierarchy of page tables in an array of tables. */
 typedef struct x64_hierarchy {
-    uint64_t first;  /* the number of the frame that tables[0] is */
+    uint64_t first;  /* the number of the frame that tables[0] is, if there are no segments */
     uint64_t root;   /* the physical address of the root table: CR3 without its flags */
     uint64_t levels; /* the number of levels of tables: 4 or 5 */
+    const x64_segment *segments; /* which frames have which tables, for a memory with holes */
+    size_t segment_count;        /* how many segments there are: with 0 `first` counts */
 } x64_hierarchy;
 
 /* Where the processor arrives, and with which rights. */
@@ -629,15 +654,15 @@ typedef struct x64_outcome {
  * that these arguments are passed, the parent flags of x64_space_map among them; X64_SHARED_ENTRY;
  * and that x64_space_map_list calls x64_map for one page after another.
  *
- * Any of them may return X64_BAD_LEVELS or X64_BAD_ROOT if the space's fields are wrong, and those
- * with a pool X64_BAD_ARRAY if its free_count is greater than its capacity.
+ * Any of them may return X64_BAD_LEVELS, X64_BAD_SEGMENTS or X64_BAD_ROOT if the space's fields are
+ * wrong, and those with a pool X64_BAD_ARRAY if its free_count is greater than its capacity.
  */
 
 /*
  * Tests
  */
 
-/* x64_spaces_fit, of this space alone: tests whether all calls on the space may be made with the
+/* x64_spaces_fit_in, of this space alone: tests whether all calls on the space may be made with the
  * pool. `marks` is working memory, with a mark for each table of the array. Returns X64_OK;
  * X64_NOT_VALID, also if the root isn't in the array; X64_BAD_LEVELS; X64_BAD_ARRAY;
  * X64_BAD_INDICES. */
@@ -645,8 +670,8 @@ X64_NODISCARD
 static inline uint32_t x64_space_fits(const x64_space *space, const x64_pool *pool, bool *marks,
                                       size_t mark_count);
 
-/* x64_spaces_fit, of all spaces that share entries with this one: these are their roots, with its
- * own among them. With several pools, test each. */
+/* x64_spaces_fit_in, of all spaces that share entries with this one: these are their roots, with
+ * its own among them. With several pools, test each. */
 X64_NODISCARD
 static inline uint32_t x64_space_all_fit(const x64_space *space, const uint64_t *roots,
                                          size_t root_count, const x64_pool *pool, bool *marks,
@@ -934,7 +959,8 @@ uint32_t x64_flush_between(uint64_t level, uint64_t old, uint64_t word);
 /*
  * CALLS THAT READ
  *
- * Each may also return X64_BAD_LEVELS and, if it is passed a hierarchy, X64_BAD_ROOT.
+ * Each may also return X64_BAD_LEVELS and, if it is passed a hierarchy, X64_BAD_SEGMENTS or
+ * X64_BAD_ROOT (but x64_spaces_fit_in, which has no root).
  */
 
 /*
@@ -1067,10 +1093,25 @@ uint32_t x64_spaces_fit(uint64_t first, uint64_t levels, const x64_table *tables
                         size_t capacity, size_t free_count, bool *marks, size_t mark_count);
 
 /*
+ * Tests the same, with the number of levels of a hierarchy and in its memory, which may have
+ * segments. The root of the hierarchy isn't looked at.
+ *
+ * Condition: that of x64_spaces_fit.
+ *
+ * Returns what x64_spaces_fit returns, or X64_BAD_SEGMENTS.
+ */
+X64_NODISCARD
+uint32_t x64_spaces_fit_in(const x64_hierarchy *hierarchy, const x64_table *tables,
+                           size_t table_count, const uint64_t *roots, size_t root_count,
+                           uint64_t shared_from, uint64_t shared_to, const uint64_t *pool,
+                           size_t capacity, size_t free_count, bool *marks, size_t mark_count);
+
+/*
  * CALLS THAT CHANGE TABLES
  *
- * Each may also return X64_BAD_LEVELS or X64_BAD_ROOT. Words change only in the root, in the tables
- * below it and, if a map or x64_new_space makes tables, in frames that it takes from the pool.
+ * Each may also return X64_BAD_LEVELS, X64_BAD_SEGMENTS or X64_BAD_ROOT. Words change only in the
+ * root, in the tables below it and, if a map or x64_new_space makes tables, in frames that it takes
+ * from the pool.
  */
 
 /*
@@ -1460,7 +1501,44 @@ static inline x64_hierarchy x64_space_hierarchy(const x64_space *space) {
     hierarchy.first = space->first;
     hierarchy.root = space->root;
     hierarchy.levels = space->levels;
+    hierarchy.segments = space->segments;
+    hierarchy.segment_count = space->segment_count;
     return hierarchy;
+}
+
+/* Returns whether the segments of a hierarchy are in order. */
+static inline bool x64_has_segments_in_order(const x64_hierarchy *hierarchy) {
+    for (size_t k = 0; k < hierarchy->segment_count; k++) {
+        const x64_segment *it = &hierarchy->segments[k];
+        if (it->count > UINT64_MAX - it->first || it->count > UINT64_MAX - it->place)
+            return false;
+        for (size_t j = 0; j < k; j++) {
+            const x64_segment *other = &hierarchy->segments[j];
+            if (other->first + other->count > it->first ||
+                (other->place + other->count > it->place && it->place + it->count > other->place))
+                return false;
+        }
+    }
+    return true;
+}
+
+/* Returns the index of the table that a frame has, or one that is outside of every array. */
+static inline uint64_t x64_place_of(const x64_hierarchy *hierarchy, uint64_t frame) {
+    const uint64_t number = frame / 4096;
+    if (hierarchy->segment_count == 0)
+        return number - hierarchy->first;
+    for (size_t k = 0; k < hierarchy->segment_count; k++) {
+        const x64_segment *it = &hierarchy->segments[k];
+        if (number - it->first < it->count)
+            return it->place + (number - it->first);
+    }
+    return UINT64_MAX;
+}
+
+/* The same, of a space. */
+static inline uint64_t x64_space_place_of(const x64_space *space, uint64_t frame) {
+    const x64_hierarchy hierarchy = x64_space_hierarchy(space);
+    return x64_place_of(&hierarchy, frame);
 }
 
 /* Returns the page of a size that starts at an address. */
@@ -1501,7 +1579,7 @@ static inline bool x64_space_shares(const x64_space *space, uint64_t address) {
 static inline bool x64_space_has_root(const x64_space *space) {
     return (space->levels == 4 || space->levels == 5) && space->root % 4096 == 0 &&
            space->root < UINT64_C(1) << 52 &&
-           space->root / 4096 - space->first < space->table_count;
+           x64_space_place_of(space, space->root) < space->table_count;
 }
 
 /* Returns whether a space's root can be read, and these pages exist: at least one, of a size that
@@ -1519,7 +1597,7 @@ static inline bool x64_space_has_pages(const x64_space *space, const x64_page *f
  * root is wrong, returns null. */
 static inline uint64_t *x64_space_shared_word(const x64_space *space, uint64_t address) {
     return x64_space_has_root(space) && x64_space_shares(space, address)
-               ? &space->tables[space->root / 4096 - space->first]
+               ? &space->tables[x64_space_place_of(space, space->root)]
                       .words[x64_space_index(space, address)]
                : NULL;
 }
@@ -1575,9 +1653,10 @@ static inline uint32_t x64_space_fits(const x64_space *space, const x64_pool *po
 static inline uint32_t x64_space_all_fit(const x64_space *space, const uint64_t *roots,
                                          size_t root_count, const x64_pool *pool, bool *marks,
                                          size_t mark_count) {
-    return x64_spaces_fit(space->first, space->levels, space->tables, space->table_count, roots,
-                          root_count, space->shared_from, space->shared_to, pool->frames,
-                          pool->capacity, pool->free_count, marks, mark_count);
+    x64_hierarchy hierarchy = x64_space_hierarchy(space);
+    return x64_spaces_fit_in(&hierarchy, space->tables, space->table_count, roots, root_count,
+                             space->shared_from, space->shared_to, pool->frames, pool->capacity,
+                             pool->free_count, marks, mark_count);
 }
 
 static inline uint32_t x64_space_is_valid(const x64_space *space, bool *marks, size_t mark_count) {

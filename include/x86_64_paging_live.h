@@ -92,6 +92,11 @@ extern "C" {
     (X64_ADDRESS | X64_WRITE_THROUGH | X64_NO_CACHE | X64_HUGE_PAGE | X64_GLOBAL |                 \
      UINT64_C(0x7800000000000000))
 
+/* Returns whether a status says that a hierarchy is wrong: its levels, its segments or its root. */
+static inline bool x64_is_bad_hierarchy(uint32_t status) {
+    return status == X64_BAD_LEVELS || status == X64_BAD_SEGMENTS || status == X64_BAD_ROOT;
+}
+
 /* Returns whether a word at a level names a table, present or not. */
 static inline bool x64_names_table(uint64_t level, uint64_t word) {
     return level > 1 && word != 0 && !(word & X64_HUGE_PAGE);
@@ -115,7 +120,7 @@ static inline bool x64_may_replace(uint64_t level, uint64_t old, uint64_t word) 
 
 /* Returns where the word of an entry stands, or null if its table isn't in the array. */
 static inline uint64_t *x64_space_word_at(const x64_space *space, const x64_entry *entry) {
-    uint64_t number = entry->table / 4096 - space->first;
+    uint64_t number = x64_space_place_of(space, entry->table);
     return number < space->table_count && entry->index < 512
                ? &space->tables[number].words[entry->index]
                : NULL;
@@ -145,9 +150,11 @@ static inline uint32_t x64_entries_live(const x64_hierarchy *hierarchy, const x6
                                         size_t table_count, uint64_t address, x64_entry *entries,
                                         size_t *count) {
     uint64_t levels = hierarchy->levels, frame = hierarchy->root,
-             number = frame / 4096 - hierarchy->first;
+             number = x64_place_of(hierarchy, frame);
     if (levels != 4 && levels != 5)
         return X64_BAD_LEVELS;
+    if (!x64_has_segments_in_order(hierarchy))
+        return X64_BAD_SEGMENTS;
     if ((frame & ~X64_ADDRESS) != 0 || number >= table_count)
         return X64_BAD_ROOT;
     if (!x64_is_canonical(levels, address))
@@ -164,7 +171,7 @@ static inline uint32_t x64_entries_live(const x64_hierarchy *hierarchy, const x6
         if (level == 1 || (entry->word & X64_HUGE_PAGE))
             return level <= 3 ? X64_OK : X64_PARENT_ENTRY_HUGE_PAGE;
         frame = entry->word & X64_ADDRESS;
-        number = frame / 4096 - hierarchy->first;
+        number = x64_place_of(hierarchy, frame);
         if (number >= table_count)
             return X64_NO_TABLE;
     }
@@ -187,8 +194,8 @@ static inline uint32_t x64_space_entries_live(const x64_space *space, uint64_t a
  * Condition: the hierarchy is valid. WHEN says above what may run meanwhile.
  *
  * Returns X64_OK if the entry has X64_PRESENT; X64_NOT_MAPPED if it lacks it, and *entry is
- * written, too; X64_BAD_ADDRESS; X64_BAD_LEVELS; X64_BAD_ROOT; X64_NOT_VALID, if the hierarchy
- * isn't and the walk meets this.
+ * written, too; X64_BAD_ADDRESS; X64_BAD_LEVELS; X64_BAD_SEGMENTS; X64_BAD_ROOT; X64_NOT_VALID, if
+ * the hierarchy isn't and the walk meets this.
  */
 X64_NODISCARD
 static inline uint32_t x64_space_find_entry(const x64_space *space, uint64_t address,
@@ -213,7 +220,8 @@ static inline uint32_t x64_space_find_entry(const x64_space *space, uint64_t add
  *   X64_PAGE_NOT_MAPPED          if an entry above the page lacks X64_PRESENT
  *   X64_PARENT_ENTRY_HUGE_PAGE   if an entry above the page has X64_HUGE_PAGE, present or not
  *   X64_HAS_TABLE                if the entry of a page of 2 MiB or 1 GiB names a table
- *   X64_BAD_PAGE; X64_BAD_LEVELS; X64_BAD_ROOT; X64_NOT_VALID as x64_space_find_entry
+ *   X64_BAD_PAGE; and X64_BAD_LEVELS; X64_BAD_SEGMENTS; X64_BAD_ROOT; X64_NOT_VALID as
+ *                                x64_space_find_entry
  */
 X64_NODISCARD
 static inline uint32_t x64_space_find_page(const x64_space *space, uint64_t page, uint64_t size,
@@ -392,7 +400,7 @@ static inline uint32_t x64_space_change_page(const x64_space *space, uint64_t pa
  *   X64_NOT_VALID                as x64_space_find_entry; *count of them are taken
  *   X64_BAD_PAGE                 if `first` or `last` isn't a canonical multiple of 4 KiB, or they
  *                                are in different halves of the address space
- *   X64_BAD_LEVELS; X64_BAD_ROOT
+ *   X64_BAD_LEVELS; X64_BAD_SEGMENTS; X64_BAD_ROOT
  * X64_BAD_ statuses write nothing, and only X64_MORE and X64_PARENT_ENTRY_HUGE_PAGE write *next.
  */
 X64_NODISCARD
@@ -401,7 +409,7 @@ static inline uint32_t x64_space_take_range_live(const x64_space *space, uint64_
                                                  size_t *count, uint64_t *next) {
     x64_entry entry;
     uint32_t status = x64_space_find_entry(space, first, &entry);
-    if (status == X64_BAD_LEVELS || status == X64_BAD_ROOT)
+    if (x64_is_bad_hierarchy(status))
         return status;
     if (status == X64_BAD_ADDRESS || !x64_is_canonical(space->levels, last) || first % 4096 != 0 ||
         last % 4096 != 0 || (first ^ last) >> 63 != 0)
@@ -526,7 +534,7 @@ static inline uint32_t x64_space_split(const x64_space *space, x64_pool *pool, u
         return X64_FRAME_ALLOCATION_FAILED;
     const uint64_t frame = pool->frames[pool->free_count - 1],
                    table = frame | X64_PRESENT | X64_WRITABLE | X64_USER_ACCESSIBLE | X64_ACCESSED;
-    uint64_t *words = space->tables[frame / 4096 - space->first].words;
+    uint64_t *words = space->tables[x64_space_place_of(space, frame)].words;
     do {
         status = x64_split_status(entry.level, entry.word);
         for (uint64_t j = 0; j < 512; j++)
@@ -564,7 +572,7 @@ static inline uint32_t x64_space_split(const x64_space *space, x64_pool *pool, u
  *   X64_NOT_ALLOWED              if the pages below aren't the parts of the word, or it lacks
  *                                X64_HUGE_PAGE, or its address isn't a multiple of the size
  *   X64_BAD_PAGE                 also for 4 KiB
- *   X64_BAD_LEVELS; X64_BAD_ROOT; X64_NOT_VALID as x64_space_find_entry
+ *   X64_BAD_LEVELS; X64_BAD_SEGMENTS; X64_BAD_ROOT; X64_NOT_VALID as x64_space_find_entry
  */
 X64_NODISCARD
 static inline uint32_t x64_space_join(const x64_space *space, uint64_t page, uint64_t size,
@@ -573,7 +581,7 @@ static inline uint32_t x64_space_join(const x64_space *space, uint64_t page, uin
     size_t count = 0;
     uint64_t level = x64_level_of(size);
     uint32_t status = x64_space_entries_live(space, page, entries, &count);
-    if (status == X64_BAD_LEVELS || status == X64_BAD_ROOT)
+    if (x64_is_bad_hierarchy(status))
         return status;
     if (status == X64_BAD_ADDRESS || level < 2 || page % size != 0)
         return X64_BAD_PAGE;
@@ -585,7 +593,7 @@ static inline uint32_t x64_space_join(const x64_space *space, uint64_t page, uin
         return entries[count - 1].word & X64_HUGE_PAGE ? X64_PARENT_ENTRY_HUGE_PAGE
                                                        : X64_PAGE_NOT_MAPPED;
     x64_entry *entry = &entries[space->levels - level];
-    const uint64_t *words = space->tables[entry[1].table / 4096 - space->first].words;
+    const uint64_t *words = space->tables[x64_space_place_of(space, entry[1].table)].words;
     word |= X64_ACCESSED | (word & X64_WRITABLE ? X64_DIRTY : 0);
     for (uint64_t j = 0; j < 512; j++)
         word |= __atomic_load_n(&words[j], __ATOMIC_ACQUIRE) & X64_DIRTY;
@@ -645,6 +653,8 @@ static inline uint32_t x64_judge(uint64_t levels, const x64_controls *controls,
     copy.first = 1;
     copy.root = 4096;
     copy.levels = levels;
+    copy.segments = NULL;
+    copy.segment_count = 0;
     x64_copy_path(entries, count, controls->physical_bits, scratch);
     uint32_t status =
         x64_access(&copy, scratch->tables, count > 0 ? count : 1, controls, &asked, outcome);
@@ -699,7 +709,7 @@ static inline uint32_t x64_access_live(const x64_hierarchy *hierarchy, x64_table
     x64_arrival seen;
     uint32_t status = x64_entries_live(hierarchy, tables, table_count, request->address,
                                        seen.entries, &seen.count);
-    if (status == X64_BAD_LEVELS || status == X64_BAD_ROOT)
+    if (x64_is_bad_hierarchy(status))
         return status;
     if (status == X64_BAD_ADDRESS)
         seen.count = 0; /* x64_access looks at the kind of the access before */
@@ -716,7 +726,7 @@ static inline uint32_t x64_access_live(const x64_hierarchy *hierarchy, x64_table
         seen.user = seen.user && (entry->word & X64_USER_ACCESSIBLE);
         seen.execute = seen.execute && !(entry->word & X64_NO_EXECUTE);
         bool is_dirty = k + 1 == seen.count && request->kind == X64_WRITE;
-        uint64_t *at = &tables[entry->table / 4096 - hierarchy->first].words[entry->index];
+        uint64_t *at = &tables[x64_place_of(hierarchy, entry->table)].words[entry->index];
         if (request->mark &&
             !x64_mark_entry(at, entry, is_dirty ? X64_ACCESSED | X64_DIRTY : X64_ACCESSED))
             return X64_CHANGED;

@@ -17,7 +17,7 @@ enum { TABLES = 4, FORBIDDEN = 0x200, BUSY = 0x400 };
 /* the frames 0x1000 to 0x4000, of which 0x1000 is the root */
 static x64_table tables[TABLES];
 static uint64_t frames[TABLES] = {0x4000, 0x3000, 0x2000};
-static x64_space process = {tables, TABLES, 1, 0x1000, 4, 0, 0};
+static x64_space process = {tables, TABLES, 1, 0x1000, 4, 0, 0, NULL, 0};
 static x64_pool pool = {frames, TABLES, 3};
 
 /* Ends the program if a call returned another status than X64_OK. */

@@ -102,7 +102,8 @@ void make_kernel_space(uint64_t memory_size, uint64_t levels) {
     extern const uint8_t text_start[], constants_start[], data_start[], data_end[];
     for (; pool.free_count < TABLE_COUNT - 1; pool.free_count++)
         free_tables[pool.free_count] = TABLES_AT + pool.free_count * sizeof(x64_table);
-    kernel_space = (x64_space){tables, TABLE_COUNT, TABLES_AT / sizeof(x64_table), TABLES_AT + pool.free_count * sizeof(x64_table), levels, 0, 0};
+    const uint64_t root = TABLES_AT + pool.free_count * sizeof(x64_table);
+    kernel_space = (x64_space){tables, TABLE_COUNT, TABLES_AT / sizeof(x64_table), root, levels, 0, 0, NULL, 0};
     memset(&tables[pool.free_count], 0, sizeof(x64_table));
     map_kernel((uint8_t *)DIRECT, (uint8_t *)DIRECT + memory_size, X64_SIZE_2MIB, DIRECT, X64_WRITABLE | X64_NO_EXECUTE);
     map_kernel(text_start, constants_start, X64_SIZE_4KIB, KERNEL, 0);

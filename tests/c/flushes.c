@@ -262,7 +262,7 @@ static void start(uint64_t levels) {
     memset(memory, 0, sizeof memory);
     for (size_t n = 0; n < FRAMES; n++)
         free_frames[n] = (FIRST + FRAMES - 1 - n) * UINT64_C(4096);
-    space = (x64_space){memory, FRAMES, FIRST, FIRST * 4096, levels, 0, 0};
+    space = (x64_space){memory, FRAMES, FIRST, FIRST * 4096, levels, 0, 0, NULL, 0};
     pool = (x64_pool){free_frames, FRAMES, FRAMES - 1};
     controls = (x64_controls){.write_protect = true, .no_execute = true, .physical_bits = 40};
     flush_everything();

@@ -1,7 +1,7 @@
 /*
  * Meets each status of each function, row by row, and compares what the call left: how many words changed, the pool, and what
- * was written through out parameters. A row is tried with four levels and with five, and with tables from frame 0 on and from
- * frame 16 on. While a call reads, its tables stand in memory that can't be written.
+ * was written through out parameters. A row is tried with four levels and with five, with tables from frame 0 on and from frame 16
+ * on, and with segments of frames, as a memory with holes has them. While a call reads, its tables stand in memory that can't be written.
  */
 #define _DEFAULT_SOURCE
 #include <inttypes.h>
@@ -12,7 +12,7 @@
 
 #include "x86_64_paging.h"
 
-enum { TABLES = 16, ROOM = 12, FREE = 3, LISTED = 8, MAPPED = 6, ROOTS = 2, SETTINGS = 9, STATUSES = 24, READ = X64_MOST_LEVELS + 1 };
+enum { TABLES = 16, ROOM = 12, FREE = 3, LISTED = 8, MAPPED = 6, ROOTS = 2, SETTINGS = 9, STATUSES = 25, READ = X64_MOST_LEVELS + 1 };
 
 /* Addresses that aren't canonical: the first with four levels, the second with five, too. */
 #define NOT_CANONICAL_4 UINT64_C(0x800000000000)
@@ -25,7 +25,7 @@ enum { TABLES = 16, ROOM = 12, FREE = 3, LISTED = 8, MAPPED = 6, ROOTS = 2, SETT
 /* The arguments of all functions. A row sets those that differ from the usual ones. */
 struct arguments {
     uint64_t only; /* 4 or 5 if the row is tried with so many levels alone */
-    uint64_t levels, root, root_offset, table_count, null_tables;
+    uint64_t levels, root, root_offset, table_count, null_tables, bad_segments;
     uint64_t capacity, free_count, null_pool;
     uint64_t mark_count, null_marks;
     uint64_t list_capacity, null_list, entry_capacity, null_entries;
@@ -88,6 +88,10 @@ struct world {
 
 static _Alignas(4096) struct world world, before;
 static uint64_t first;
+static bool has_segments;
+
+/* Segments that name the same tables as tables from frame 16 on, and some that overlap. */
+static const x64_segment segments[] = {{16, 5, 0}, {21, TABLES - 5, 5}}, bad_segments[] = {{16, 5, 0}, {20, TABLES - 5, 5}};
 
 /* Returns the address of a table. */
 static uint64_t table(uint64_t number) {
@@ -134,6 +138,7 @@ enum function {
     IS_VALID,
     POOL_FITS,
     SPACES_FIT,
+    SPACES_FIT_IN,
     ACCESS,
     MAP,
     MAP_AS_MAPPER,
@@ -154,9 +159,10 @@ enum function {
 
 static const char *const names[FUNCTIONS] = {
     "x64_page_walk",          "x64_walk",      "x64_entries",      "x64_translate",       "x64_mappings",  "x64_list_range",
-    "x64_is_valid",           "x64_pool_fits", "x64_spaces_fit",   "x64_access",          "x64_map",       "x64_map_as_mapper",
-    "x64_prepare",            "x64_unmap",     "x64_update_flags", "x64_set_table_flags", "x64_map_range", "x64_unmap_range",
-    "x64_update_flags_range", "x64_clean_up",  "x64_take_range",   "x64_change_range",    "x64_new_space", "x64_give_up_space",
+    "x64_is_valid",      "x64_pool_fits",  "x64_spaces_fit",         "x64_spaces_fit_in", "x64_access",       "x64_map",
+    "x64_map_as_mapper", "x64_prepare",    "x64_unmap",              "x64_update_flags",  "x64_set_table_flags", "x64_map_range",
+    "x64_unmap_range",   "x64_update_flags_range", "x64_clean_up",   "x64_take_range",    "x64_change_range", "x64_new_space",
+    "x64_give_up_space",
 };
 
 /* Returns the arguments that rows change. */
@@ -196,6 +202,11 @@ static struct arguments usual(uint64_t levels) {
 static uint32_t call(enum function function, const struct arguments *a) {
     x64_hierarchy hierarchy = {.first = first, .root = a->root + a->root_offset, .levels = a->levels};
     const x64_hierarchy *h = &hierarchy;
+    if (has_segments || a->bad_segments) {
+        hierarchy.first = 99; /* isn't looked at */
+        hierarchy.segments = a->bad_segments ? bad_segments : segments;
+        hierarchy.segment_count = 2;
+    }
     x64_table *tables = a->null_tables ? NULL : world.tables;
     uint64_t *pool = a->null_pool ? NULL : world.pool;
     bool *marks = a->null_marks ? NULL : world.marks;
@@ -231,6 +242,8 @@ static uint32_t call(enum function function, const struct arguments *a) {
     case SPACES_FIT:
         return x64_spaces_fit(first, a->levels, tables, n, roots, a->root_count, from, to, pool, a->capacity, a->free_count,
                               marks, a->mark_count);
+    case SPACES_FIT_IN:
+        return x64_spaces_fit_in(h, tables, n, roots, a->root_count, from, to, pool, a->capacity, a->free_count, marks, a->mark_count);
     case ACCESS:
         return x64_access(h, tables, n, &controls, &access, &world.outcome);
     case MAP:
@@ -274,11 +287,18 @@ static const struct row levels_rows[] = {
     ROW("three levels", X64_BAD_LEVELS, SET(levels, 3)),
     ROW("six levels", X64_BAD_LEVELS, SET(levels, 6)),
     ROW("levels beyond 32 bits", X64_BAD_LEVELS, SET(levels, UINT64_C(0x100000004))),
-    ROW("bad levels before all others", X64_BAD_LEVELS, SET(levels, 0), SET(root_offset, 1), SET(capacity, 0), SET(mark_count, 0),
+    ROW("bad levels before all others", X64_BAD_LEVELS, SET(levels, 0), SET(bad_segments, 1), SET(root_offset, 1), SET(capacity, 0), SET(mark_count, 0),
         SET(shared_to, 513), SET(entry_capacity, 0)),
 };
 
-/* Bad arguments of every function that takes a hierarchy. */
+/* Bad segments of every function that takes a hierarchy. */
+static const struct row segment_rows[] = {
+    ROW("segments that overlap", X64_BAD_SEGMENTS, SET(bad_segments, 1)),
+    ROW("bad segments before all others", X64_BAD_SEGMENTS, SET(bad_segments, 1), SET(root_offset, 8), SET(capacity, 0), SET(mark_count, 0),
+        SET(address, NOT_CANONICAL), SET(size, 0), SET(kind, 3), SET(shared_to, 513), SET(entry_capacity, 0)),
+};
+
+/* Bad roots of every function that takes a hierarchy. */
 static const struct row hierarchies[] = {
     ROW("a root that is no multiple of 4096", X64_BAD_ROOT, SET(root_offset, 8)),
     ROW("a root with a flag", X64_BAD_ROOT, SET(root_offset, 1)),
@@ -1217,14 +1237,15 @@ static void try_row(enum function function, const struct row *row, uint64_t leve
         fail(function, row, levels, "it wrote what it may not write", 0, 0);
 }
 
-/* Tries rows with all numbers of levels and with tables from two frames on. */
+/* Tries rows with all numbers of levels, with tables from two frames on, and with segments if the function takes them. */
 static void try_rows(enum function function, const struct row *rows, size_t count) {
-    static const uint64_t firsts[] = {0, 16};
+    static const uint64_t firsts[] = {0, 16, 16};
     for (size_t n = 0; n < count; n++)
-        for (size_t k = 0; k < 2; k++)
+        for (size_t k = 0; k < (function == SPACES_FIT ? 2 : 3); k++)
             for (uint64_t levels = 4; levels <= 5; levels++)
                 if (is_tried(&rows[n], levels)) {
                     first = firsts[k];
+                    has_segments = k == 2;
                     try_row(function, &rows[n], levels);
                 }
 }
@@ -1246,7 +1267,9 @@ static void try_flushes(void) {
 
 /* Checks that a function met just the statuses that the header says it may return, which come after X64_OK and end with it. */
 static void check_statuses(enum function function, const uint32_t *statuses) {
-    bool may[STATUSES] = {[X64_OK] = true, [X64_BAD_LEVELS] = true, [X64_BAD_ROOT] = function != SPACES_FIT};
+    bool may[STATUSES] = {[X64_OK] = true, [X64_BAD_LEVELS] = true};
+    may[X64_BAD_SEGMENTS] = function != SPACES_FIT;
+    may[X64_BAD_ROOT] = function != SPACES_FIT && function != SPACES_FIT_IN;
     for (; *statuses != X64_OK; statuses++)
         may[*statuses] = true;
     for (uint32_t status = 0; status < STATUSES; status++)
@@ -1260,8 +1283,10 @@ int main(void) {
     for (int function = 0; function < FUNCTIONS; function++) {
         TRY((enum function)function, levels_rows);
         if (function != SPACES_FIT)
+            TRY((enum function)function, segment_rows);
+        if (function != SPACES_FIT && function != SPACES_FIT_IN)
             TRY((enum function)function, hierarchies);
-        if (function == SPACES_FIT || function > CHANGE_RANGE)
+        if (function == SPACES_FIT || function == SPACES_FIT_IN || function > CHANGE_RANGE)
             TRY((enum function)function, indices);
     }
     for (int function = MAP; function < CLEAN_UP; function++)
@@ -1280,6 +1305,7 @@ int main(void) {
     TRY(POOL_FITS, is_valid);
     TRY(POOL_FITS, pool_fits);
     TRY(SPACES_FIT, spaces_fit);
+    TRY(SPACES_FIT_IN, spaces_fit);
     TRY(ACCESS, access_rows);
     TRY(MAP, map);
     TRY(MAP, refused_map);
@@ -1319,6 +1345,7 @@ int main(void) {
         [UPDATE_FLAGS] = {X64_NOT_ALLOWED, X64_PARENT_ENTRY_HUGE_PAGE, X64_PAGE_NOT_MAPPED, X64_BAD_PAGE},
         [SET_TABLE_FLAGS] = {X64_NOT_ALLOWED, X64_PARENT_ENTRY_HUGE_PAGE, X64_PAGE_NOT_MAPPED, X64_BAD_PAGE},
         [SPACES_FIT] = {X64_NOT_VALID, X64_BAD_ARRAY, X64_BAD_INDICES},
+        [SPACES_FIT_IN] = {X64_NOT_VALID, X64_BAD_ARRAY, X64_BAD_INDICES},
         [MAP_RANGE] = {X64_NOT_ALLOWED, X64_FRAME_ALLOCATION_FAILED, X64_PARENT_ENTRY_HUGE_PAGE, X64_PAGE_ALREADY_MAPPED,
                        X64_BAD_ARRAY, X64_BAD_PAGE, X64_BAD_FRAME},
         [UNMAP_RANGE] = {X64_MORE, X64_BAD_PAGE},

@@ -1,9 +1,14 @@
 -- What is wrong with arguments, once the hierarchy is right.
-use Rattle.std.proofs.Common.{◌≡◌, ◌⊎◌, ⊎_elim, ℕ, None, List, length, rules, sym, ap, ◌∙◌}
+use Rattle.std.proofs.Common.{◌≡◌, ◌⊎◌, ⊎_elim, ℕ, true, None, List, [], ◌∷◌, length, rules, sym, ap, ◌∙◌}
 use Rattle.std.specs.FinMap.{len}
+use Rattle.x86_64_model.specs.Memory.{IsMapping}
+use Rattle.x86_64_tables.specs.FrameSegments.{are_in_order}
 use Rattle.x86_64_tables.specs.LentMemory.{numbered, tables_in_order}
+use Rattle.x86_64_tables.specs.Shifted.{shifted_is_mapping}
+use Rattle.x86_64_tables.specs.declared.phys_memory.frame_segment.FrameSegment.{FrameSegment}
+use Rattle.x86_64_tables.specs.private.SegmentLaws.{segments_are_mapping}
 use Rattle.x86_64_tables.proofs.NumberedTables.{in_order-numbered, len-numbered}
-use Rattle.x86_64_c.specs.Arguments.{bad_hierarchy}
+use Rattle.x86_64_c.specs.Arguments.{bad_hierarchy, places_by, places_given}
 use Rattle.x86_64_c.specs.declared.arguments.Hierarchy.{Hierarchy}
 
 -- a right hierarchy has four or five levels
@@ -12,6 +17,18 @@ four_or_five h n good = search rules
 
 pub else_five : (levels : ℕ) → (levels ≡ 4) ⊎ (levels ≡ 5) → (levels ≡ 4 → ⊥) → levels ≡ 5
 else_five levels which other = ⊎_elim (λ four. absurd (other four)) (λ five. five) which
+
+-- and segments in order
+pub segments_right : (h : Hierarchy) (n : ℕ) → bad_hierarchy h n ≡ None → are_in_order h.segments.now ≡ true
+segments_right h n good = search rules
+
+-- whose places are a mapping of frames
+by_is_mapping : (first : ℕ) (segments : List FrameSegment) → are_in_order segments ≡ true → IsMapping (places_by first segments)
+by_is_mapping first [] order = shifted_is_mapping first
+by_is_mapping first (segment ∷ others) order = segments_are_mapping (segment ∷ others) order
+
+pub given_is_mapping : (h : Hierarchy) → are_in_order h.segments.now ≡ true → IsMapping (places_given h)
+given_is_mapping h order = by_is_mapping h.first h.segments.now order
 
 -- the tables of a memory over a slice, in order, are the slice
 pub handed_back : (ts : List (List ℕ)) → tables_in_order (numbered ts) ≡ ts

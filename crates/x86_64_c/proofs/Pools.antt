@@ -2,24 +2,21 @@
 use Rattle.std.proofs.Common.{◌≡◌, ℕ, Bool, true, List, [], refl, sym, ap, ◌∙◌, subst}
 use Rattle.std.specs.Borrow.{GName}
 use Rattle.x86_64_model.specs.Hierarchy.{PoolFits}
-use Rattle.x86_64_model.specs.Memory.{Memory}
+use Rattle.x86_64_model.specs.Memory.{IsMapping, Memory, Places}
 use Rattle.x86_64_model.specs.Store.{Store}
 use Rattle.x86_64_model.proofs.Lemmas.Hierarchies.Memories.{covered}
+use Rattle.x86_64_mappers.specs.Layouts.{owned_at}
 use Rattle.x86_64_tables.specs.LentPool.{is_in, served_by}
-use Rattle.x86_64_tables.specs.Shifted.{shifted_is_mapping}
 use Rattle.x86_64_tables.specs.private.PoolLaws.{served_frame}
-use Rattle.x86_64_c.specs.Arguments.{at, places_of}
-use Rattle.x86_64_c.specs.declared.arguments.Located.{Located}
 use Rattle.x86_64_c.specs.private.Pools.{stack}
 
 -- a pool serves the root if this is one of its own frames
-pub serves_root : (own : List ℕ) (array count : GName) (serves : ℕ → Bool) → serves ≡ served_by own array count → (L : ℕ) (located : Located) (m : Memory) (pool : List ℕ)
-    → PoolFits (at L located m) (is_in own) pool → is_in own located.root ≡ true → serves located.root ≡ true
-serves_root own array count serves same L located m pool fits among =
-    let places = places_of located in
-    let there = fits.valid.valid.holds.in_memory [] located.root refl in
-    let frame = (shifted_is_mapping located.mapping.first).frames located.root (covered m places located.root there) in
-    ap (λ s. s located.root) same ∙ served_frame own array count located.root frame among
+pub serves_root : (own : List ℕ) (array count : GName) (serves : ℕ → Bool) → serves ≡ served_by own array count → (L : ℕ) (places : Places) → IsMapping places → (root : ℕ) (m : Memory) (pool : List ℕ)
+    → PoolFits (owned_at L places root m tt) (is_in own) pool → is_in own root ≡ true → serves root ≡ true
+serves_root own array count serves same L places maps root m pool fits among =
+    let there = fits.valid.valid.holds.in_memory [] root refl in
+    let frame = maps.frames root (covered m places root there) in
+    ap (λ s. s root) same ∙ served_frame own array count root frame among
 
 -- what is done to pools that serve the names of the loans, too, is done to those that serve their own frames alone
 pub lent_step : (P : (pool rest : Store) → Type 0) (own : List ℕ) (serves also : ℕ → Bool) → also ≡ serves

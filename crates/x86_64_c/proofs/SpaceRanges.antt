@@ -14,12 +14,11 @@ use Rattle.x86_64_model.specs.Store.{KeepsPool, put_first}
 use Rattle.x86_64_mappers.specs.Ranges.{DoesMaps, MapRange, range_frame, map_at, maps as maps_of, range_page}
 use Rattle.x86_64_tables.specs.LentMemory.{numbered}
 use Rattle.x86_64_tables.specs.LentPool.{is_in, stacked}
-use Rattle.x86_64_tables.specs.Shifted.{shifted_is_mapping}
-use Rattle.x86_64_c.proofs.ArgumentsGiven.{four_or_five}
+use Rattle.x86_64_c.proofs.ArgumentsGiven.{four_or_five, given_is_mapping}
 use Rattle.x86_64_c.proofs.EntryChanges.{gives, plain}
 use Rattle.x86_64_c.proofs.RangesSeen.{maps_are}
-use Rattle.x86_64_c.proofs.TogetherFit.{has_levels, kept, none_first}
-use Rattle.x86_64_c.specs.AddressSpaces.{FitTogether, OthersStay, RangeChangesKeepOthers, RangeChangesKeepSpaces, RangeMapsKeepOthers, RangeMapsKeepSpaces, layout_given}
+use Rattle.x86_64_c.proofs.TogetherFit.{is_right, kept, none_first}
+use Rattle.x86_64_c.specs.AddressSpaces.{FitTogether, IsInOrder, OthersStay, RangeChangesKeepOthers, RangeChangesKeepSpaces, RangeMapsKeepOthers, RangeMapsKeepSpaces, layout_given}
 use Rattle.x86_64_c.specs.Arguments.{bad_hierarchy, hierarchy_in, level_of_page_size}
 use Rattle.x86_64_c.specs.PoolCalls.{Loan, loan, pool_in}
 use Rattle.x86_64_c.specs.Ranges.{Maps, MapsWith, MayMapPages, bad_map_range, range_asked}
@@ -102,7 +101,7 @@ module _ (stay : SpacesStay) (own : List ℕ) (shared : ℕ → Bool) (spaces : 
   module _ (lent after : Loan) (fit : FitTogether own shared spaces lent) (request : MapRequest) (count was status done : ℕ) (maps : MapsWith own h lent request count was status after done) where
     -- what holds if nothing changed, and if maps were made, holds
     by_maps : (P : Loan → Type 0) → P lent
-        → (bad_map_range h lent request count ≡ None → 0 < h.levels
+        → (bad_map_range h lent request count ≡ None → IsInOrder h
         → Maps (hierarchy_in h lent.tables) (pool_in own lent.array lent.free) (range_asked h.levels request) count (hierarchy_in h after.tables) (pool_in own after.array after.free) status done
         → P after) → P after
     by_maps P none some = by (bad_map_range h lent request count) refl
@@ -111,7 +110,7 @@ module _ (stay : SpacesStay) (own : List ℕ) (shared : ℕ → Bool) (spaces : 
         by (Some why) wrong = subst P (sym (maps.bad why wrong).1) none
         by None good =
             let right = none_first (bad_hierarchy h (length lent.tables)) _ good in
-            ⊎_elim (λ may. some good (has_levels h (length lent.tables) right) (maps.maps good may))
+            ⊎_elim (λ may. some good (is_right h (length lent.tables) right) (maps.maps good may))
             (λ not. subst P (sym (maps.refused good not).1) none)
             (may_map (hierarchy_in h lent.tables) (range_asked h.levels request) count)
 
@@ -132,14 +131,14 @@ range_changes_keep_spaces stay own shared spaces tables now array free fit h som
 
 module _ (stay : SpacesStay) (halves : SharedHalvesStay) (below : CallsKeepBelow) (own : List ℕ) (shared : ℕ → Bool) (spaces : List Layout) (h : Given) (member : In spaces (layout_given h)) where
   -- after calls that avoid the shared indices
-  others : (lent after : Loan) → FitTogether own shared spaces lent → 0 < h.levels → length after.array ≡ length lent.array
+  others : (lent after : Loan) → FitTogether own shared spaces lent → IsInOrder h → length after.array ≡ length lent.array
       → KeepsPool (layout_given h) (is_in own) (numbered lent.tables) (stacked lent.array lent.free) (numbered after.tables) (stacked after.array after.free)
       → KeepsBelow shared (layout_given h) (numbered lent.tables) (numbered after.tables)
       → FitTogether own shared spaces after × OthersStay spaces h.root (numbered lent.tables) (numbered after.tables)
   others lent after fit some long keeps kept_below =
       let one = layout_given h in (
         kept stay own shared spaces h member lent after fit some long keeps (λ i s. kept_below (i ∷ []) s),
-        λ other i apart. (halves shared one other (shifted_is_mapping h.first) some (is_in own) (numbered lent.tables) (numbered after.tables) _ _ (fit.are_spaces.fits one member) keeps kept_below
+        λ other i apart. (halves shared one other (given_is_mapping h some.1) some.0 (is_in own) (numbered lent.tables) (numbered after.tables) _ _ (fit.are_spaces.fits one member) keeps kept_below
             (fit.are_spaces.share one other member i apart)).1,
       )
 
@@ -162,7 +161,7 @@ range_maps_keep_others stay halves below own shared spaces lent after fit h memb
     r : MapRange
     r = range_asked h.levels request
 
-    made : bad_map_range h lent request count ≡ None → 0 < h.levels
+    made : bad_map_range h lent request count ≡ None → IsInOrder h
         → Maps (hierarchy_in h lent.tables) (pool_in own lent.array lent.free) r count (hierarchy_in h after.tables) (pool_in own after.array after.free) status done
         → FitTogether own shared spaces after × OthersStay spaces h.root (numbered lent.tables) (numbered after.tables)
     made good some did = ⊎_elim (λ all. by_list count (omega arith) _ all.2) (λ stop. by_list (done + 1) (few stop.2.0) _ stop.2.1) did.maps

@@ -20,8 +20,7 @@ use Rattle.x86_64_spaces.specs.Room.{spaces_in, ShareWithRoom}
 use Rattle.x86_64_spaces.specs.SpaceLayouts.{indices_of, space_layout, layouts_of, roots_of, spaces_at}
 use Rattle.x86_64_tables.specs.LentMemory.{numbered}
 use Rattle.x86_64_tables.specs.LentPool.{is_in, stacked}
-use Rattle.x86_64_tables.specs.Shifted.{shifted_places, shifted_is_mapping}
-use Rattle.x86_64_c.specs.AddressSpaces.{layout_given, layouts_given, shared_in, space_at, FitTogether, SpacesFit, EachMayBeUsed, RequestsKeepSpaces, RequestsOrNothingKeepSpaces, ChangesKeepSpaces, OthersStay, RequestsKeepOthers, RequestsOrNothingKeepOthers}
+use Rattle.x86_64_c.specs.AddressSpaces.{IsInOrder, layout_given, layouts_given, shared_in, space_at, FitTogether, SpacesFit, EachMayBeUsed, RequestsKeepSpaces, RequestsOrNothingKeepSpaces, ChangesKeepSpaces, OthersStay, RequestsKeepOthers, RequestsOrNothingKeepOthers}
 use Rattle.x86_64.specs.Asked.{machine_call}
 use Rattle.x86_64.specs.Replies.{Reply}
 use Rattle.x86_64.specs.Runs.{AfterStep}
@@ -30,64 +29,63 @@ use Rattle.x86_64_c.specs.PoolCalls.{Loan, loan, Executes, ExecutesOrNothing, wr
 use Rattle.x86_64_c.specs.Status.{ok}
 use Rattle.x86_64_c.specs.Validity.{test_status, TellsWhether}
 use Rattle.x86_64_c.specs.declared.arguments.Hierarchy.{Hierarchy as Given}
-use Rattle.x86_64_c.proofs.ArgumentsGiven.{four_or_five}
+use Rattle.x86_64_c.proofs.ArgumentsGiven.{four_or_five, given_is_mapping, segments_right}
 use Rattle.x86_64_c.proofs.SpaceArguments.{tells}
 use Rattle.x86_64_c.proofs.EntryChanges.{gives, plain}
 
 -- ---- the test
 
-module _ (first levels : ℕ) (m : Memory) (roots : List ℕ) where
-  same_layouts : layouts_of levels (shifted_places first) m (spaces_at roots) ≡ layouts_given first levels roots
-  same_layouts = map-map (space_layout levels (shifted_places first) m) space_at roots
+module _ (places : Places) (levels : ℕ) (m : Memory) (roots : List ℕ) where
+  same_layouts : layouts_of levels places m (spaces_at roots) ≡ layouts_given places levels roots
+  same_layouts = map-map (space_layout levels places m) space_at roots
 
   same_roots : roots_of (spaces_at roots) ≡ roots
   same_roots = map-map (λ (s : Space). s.root) space_at roots ∙ map-id roots
 
-module _ (shared : ℕ → Bool) (first levels : ℕ) (roots : List ℕ) (lent : Loan) where
+module _ (shared : ℕ → Bool) (places : Places) (levels : ℕ) (roots : List ℕ) (lent : Loan) where
   abbrev Tested : Type 0
-  Tested = ShareWithRoom shared (spaces_in levels (shifted_places first) (numbered lent.tables) (spaces_at roots)) (length lent.array) (stacked lent.array lent.free)
+  Tested = ShareWithRoom shared (spaces_in levels places (numbered lent.tables) (spaces_at roots)) (length lent.array) (stacked lent.array lent.free)
 
-  given_fit : Tested → SpacesFit shared first levels roots lent
+  given_fit : Tested → SpacesFit shared places levels roots lent
   given_fit x = record {
-    each_once = subst EachOnce (same_roots first levels (numbered lent.tables) roots) x.0;
+    each_once = subst EachOnce (same_roots places levels (numbered lent.tables) roots) x.0;
     own = x.1.own;
-    own_roots = λ root i. x.1.roots (direct_at levels (shifted_places first) root)
-        (subst (λ ls. In ls (direct_at levels (shifted_places first) root)) (sym (same_layouts first levels (numbered lent.tables) roots))
-        (in_map (λ root. direct_at levels (shifted_places first) root) roots root i));
+    own_roots = λ root i. x.1.roots (direct_at levels places root)
+        (subst (λ ls. In ls (direct_at levels places root)) (sym (same_layouts places levels (numbered lent.tables) roots))
+        (in_map (λ root. direct_at levels places root) roots root i));
     fit = record {
       room = x.1.few;
-      are_spaces = subst (AreSpaces shared (numbered lent.tables) (is_in x.1.own) (stacked lent.array lent.free)) (same_layouts first levels (numbered lent.tables) roots) x.1.spaces;
+      are_spaces = subst (AreSpaces shared (numbered lent.tables) (is_in x.1.own) (stacked lent.array lent.free)) (same_layouts places levels (numbered lent.tables) roots) x.1.spaces;
     };
   }
 
-  tested_fit : SpacesFit shared first levels roots lent → Tested
+  tested_fit : SpacesFit shared places levels roots lent → Tested
   tested_fit x = (
-    subst EachOnce (sym (same_roots first levels (numbered lent.tables) roots)) x.each_once,
+    subst EachOnce (sym (same_roots places levels (numbered lent.tables) roots)) x.each_once,
     record {
       own = x.own;
       few = x.fit.room;
       roots = λ a i.
-          let from = from_map (λ root. direct_at levels (shifted_places first) root) roots a
-          (subst (λ ls. In ls a) (same_layouts first levels (numbered lent.tables) roots) i) in
+          let from = from_map (λ root. direct_at levels places root) roots a
+          (subst (λ ls. In ls a) (same_layouts places levels (numbered lent.tables) roots) i) in
           subst (λ (a : Layout). is_in x.own a.root ≡ true) from.2 (x.own_roots from.0 from.1);
-      spaces = subst (AreSpaces shared (numbered lent.tables) (is_in x.own) (stacked lent.array lent.free)) (sym (same_layouts first levels (numbered lent.tables) roots)) x.fit.are_spaces;
+      spaces = subst (AreSpaces shared (numbered lent.tables) (is_in x.own) (stacked lent.array lent.free)) (sym (same_layouts places levels (numbered lent.tables) roots)) x.fit.are_spaces;
     },
   )
 
-  fits_given : Tested ↔ SpacesFit shared first levels roots lent
+  fits_given : Tested ↔ SpacesFit shared places levels roots lent
   fits_given = (given_fit, tested_fit)
 
 -- what the test tells, said of what the caller handed in
-pub told : (first levels from to : ℕ) (roots : List ℕ) (lent : Loan) (shared : SharedIndices) (places : Places) (m : Memory) → shared ≡ record { from = from; to = to } → places ≡ shifted_places first → m ≡ numbered lent.tables
+pub told : (places : Places) (levels from to : ℕ) (roots : List ℕ) (lent : Loan) (shared : SharedIndices) (m : Memory) → shared ≡ record { from = from; to = to } → m ≡ numbered lent.tables
     → (passed : Bool) (status : ℕ) → status ≡ test_status passed
     → (IsTrue passed ↔ ShareWithRoom (indices_of shared) (spaces_in levels places m (spaces_at roots)) (length lent.array) (stacked lent.array lent.free))
-    → TellsWhether (SpacesFit (shared_in from to) first levels roots lent) status
-told first levels from to roots lent shared places m same at tables passed status is means =
+    → TellsWhether (SpacesFit (shared_in from to) places levels roots lent) status
+told places levels from to roots lent shared m same tables passed status is means =
     tells passed status is
-    (subst (λ m. IsTrue passed ↔ ShareWithRoom (shared_in from to) (spaces_in levels (shifted_places first) m (spaces_at roots)) (length lent.array) (stacked lent.array lent.free)) tables
-    (subst (λ places. IsTrue passed ↔ ShareWithRoom (shared_in from to) (spaces_in levels places m (spaces_at roots)) (length lent.array) (stacked lent.array lent.free)) at
-    (subst (λ s. IsTrue passed ↔ ShareWithRoom (indices_of s) (spaces_in levels places m (spaces_at roots)) (length lent.array) (stacked lent.array lent.free)) same means)))
-    (fits_given (shared_in from to) first levels roots lent)
+    (subst (λ m. IsTrue passed ↔ ShareWithRoom (shared_in from to) (spaces_in levels places m (spaces_at roots)) (length lent.array) (stacked lent.array lent.free)) tables
+    (subst (λ s. IsTrue passed ↔ ShareWithRoom (indices_of s) (spaces_in levels places m (spaces_at roots)) (length lent.array) (stacked lent.array lent.free)) same means))
+    (fits_given (shared_in from to) places levels roots lent)
 
 -- ---- calls on one of them
 
@@ -95,9 +93,9 @@ pub none_first : (a b : Option ℕ) → option_or a b ≡ None → a ≡ None
 none_first None b none = refl
 none_first (Some x) b none = none
 
--- a hierarchy with no wrong argument has levels
-pub has_levels : (h : Given) (n : ℕ) → bad_hierarchy h n ≡ None → 0 < h.levels
-has_levels h n good = ⊎_elim (λ four. omega (arith, four)) (λ five. omega (arith, five)) (four_or_five h n good)
+-- a hierarchy with no wrong argument has levels, and its segments are in order
+pub is_right : (h : Given) (n : ℕ) → bad_hierarchy h n ≡ None → IsInOrder h
+is_right h n good = (⊎_elim (λ four. omega (arith, four)) (λ five. omega (arith, five)) (four_or_five h n good), segments_right h n good)
 
 pub each_may_be_used : EachMayBeUsed
 each_may_be_used own shared spaces lent fit h member =
@@ -108,19 +106,19 @@ each_may_be_used own shared spaces lent fit h member =
     )
 
 module _ (stay : SpacesStay) (own : List ℕ) (shared : ℕ → Bool) (spaces : List Layout) (h : Given) (member : In spaces (layout_given h)) where
-  pub kept : (lent after : Loan) → FitTogether own shared spaces lent → 0 < h.levels → length after.array ≡ length lent.array
+  pub kept : (lent after : Loan) → FitTogether own shared spaces lent → IsInOrder h → length after.array ≡ length lent.array
       → KeepsPool (layout_given h) (is_in own) (numbered lent.tables) (stacked lent.array lent.free) (numbered after.tables) (stacked after.array after.free)
       → KeepsRootEntries shared (layout_given h) (numbered lent.tables) (numbered after.tables) → FitTogether own shared spaces after
   kept lent after fit some long keeps entries = record {
     room = let few = fit.room in omega (arith, few, long);
-    are_spaces = stay shared spaces (layout_given h) member (shifted_is_mapping h.first) some (is_in own) (numbered lent.tables) (numbered after.tables) _ _ fit.are_spaces keeps entries;
+    are_spaces = stay shared spaces (layout_given h) member (given_is_mapping h some.1) some.0 (is_in own) (numbered lent.tables) (numbered after.tables) _ _ fit.are_spaces keeps entries;
   }
 
   executed : (lent after : Loan) → FitTogether own shared spaces lent → (request : Request) (status : ℕ) → Executes own h lent request status after
       → KeepsRootEntries shared (layout_given h) (numbered lent.tables) (numbered after.tables) → (wrong : Option ℕ) → wrong_pool_call h lent request ≡ wrong → FitTogether own shared spaces after
   executed lent after fit request status done entries None good =
       let right = none_first (bad_hierarchy h (length lent.tables)) _ good in
-      kept lent after fit (has_levels h (length lent.tables) right) done.room (done.runs good).keeps entries
+      kept lent after fit (is_right h (length lent.tables) right) done.room (done.runs good).keeps entries
   executed lent after fit request status done entries (Some why) wrong = subst (FitTogether own shared spaces) (sym (done.bad why wrong).1) fit
 
 pub requests_keep_spaces : SpacesStay → RequestsKeepSpaces
@@ -140,14 +138,14 @@ module _ (stay : SpacesStay) (halves : SharedHalvesStay) (below : CallsKeepBelow
   kept_others None good =
       let one = layout_given h in
       let right = none_first (bad_hierarchy h (length lent.tables)) _ good in
-      let some = has_levels h (length lent.tables) right in
+      let some = is_right h (length lent.tables) right in
       let runs = done.runs good in
       let led = sym (ap (λ (x : AfterStep Reply). x.state) runs.step) in
       let fits = fit.are_spaces.fits one member in
       let kept_below = below shared one plain put_first gives (is_in own) (numbered lent.tables) (numbered after.tables) _ _
       (machine_call h.levels (request.call h.levels) ∷ []) (is_call, tt) fits led (avoids, tt) in (
         kept stay own shared spaces h member lent after fit some done.room runs.keeps (λ i s. kept_below (i ∷ []) s),
-        λ other i apart. (halves shared one other (shifted_is_mapping h.first) some (is_in own) (numbered lent.tables) (numbered after.tables) _ _ fits runs.keeps kept_below
+        λ other i apart. (halves shared one other (given_is_mapping h some.1) some.0 (is_in own) (numbered lent.tables) (numbered after.tables) _ _ fits runs.keeps kept_below
             (fit.are_spaces.share one other member i apart)).1,
       )
   kept_others (Some why) wrong =

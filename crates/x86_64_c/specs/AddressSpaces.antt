@@ -9,7 +9,7 @@ use Rattle.x86_64_model.specs.Laws.Steps.{AllCalls}
 use Rattle.x86_64_model.specs.Layout.{Layout}
 use Rattle.x86_64_model.specs.Lists.{In, EachOnce}
 use Rattle.x86_64_model.specs.Hierarchy.{◌laid_in◌, paths}
-use Rattle.x86_64_model.specs.Memory.{Memory}
+use Rattle.x86_64_model.specs.Memory.{Memory, Places}
 use Rattle.x86_64_model.specs.Refusal.{Answer}
 use Rattle.x86_64_model.specs.Spaces.{AreSpaces, Avoids}
 use Rattle.x86_64_mappers.specs.Layouts.{direct_at}
@@ -17,12 +17,12 @@ use Rattle.x86_64_mappers.specs.Ranges.{map_at}
 use Rattle.x86_64_spaces.specs.declared.space.Space.{Space}
 use Rattle.x86_64_spaces.specs.SpaceCalls.{TakesFirst, IsMade, IsGivenUp}
 use Rattle.x86_64_spaces.specs.SpaceLayouts.{indices_of, HasSharedAlone}
+use Rattle.x86_64_tables.specs.FrameSegments.{are_in_order}
 use Rattle.x86_64_tables.specs.LentMemory.{numbered}
 use Rattle.x86_64_tables.specs.LentPool.{is_in, stacked}
-use Rattle.x86_64_tables.specs.Shifted.{shifted_places}
 use Rattle.x86_64.specs.Asked.{machine_call}
 use Rattle.x86_64_c.specs.Calls.{Changes}
-use Rattle.x86_64_c.specs.Arguments.{unless, bad_hierarchy, hierarchy_in}
+use Rattle.x86_64_c.specs.Arguments.{unless, bad_hierarchy, hierarchy_in, places_given, wrong_segments}
 use Rattle.x86_64_c.specs.PoolCalls.{Loan, loan, Request, MayExecute, Executes, ExecutesOrNothing, bad_lent, bad_pool, pool_in}
 pub use Rattle.x86_64_c.specs.PoolCalls.{HasPool}
 use Rattle.x86_64_c.specs.Ranges as range
@@ -39,11 +39,15 @@ shared_in from to = indices_of (record { from = from; to = to })
 
 -- The layout of a hierarchy in the caller's tables.
 abbrev pub layout_given : Given → Layout
-layout_given h = direct_at h.levels (shifted_places h.first) h.root
+layout_given h = direct_at h.levels (places_given h) h.root
 
--- The layouts of hierarchies with these roots in the caller's tables.
-abbrev pub layouts_given : (first levels : ℕ) → (roots : List ℕ) → List Layout
-layouts_given first levels roots = map (λ root. direct_at levels (shifted_places first) root) roots
+-- A hierarchy has levels, and its segments are in order.
+abbrev pub IsInOrder : Given → Type 0
+IsInOrder h = (0 < h.levels) × (are_in_order h.segments.now ≡ true)
+
+-- The layouts of hierarchies with these roots, with these places of frames and this number of levels.
+abbrev pub layouts_given : Places → (levels : ℕ) → (roots : List ℕ) → List Layout
+layouts_given places levels roots = map (λ root. direct_at levels places root) roots
 
 -- The space without a recursive index that has this root.
 abbrev pub space_at : (root : ℕ) → Space
@@ -55,10 +59,19 @@ space_at root = record { root = root; recursive = None }
 abbrev pub wrong_indices : (from to : ℕ) → Option ℕ
 wrong_indices from to = unless (nat_le from to && nat_le to 512) status.bad_indices
 
--- What is wrong with the arguments of a test of address spaces. It needs a mark for each table.
+-- What is wrong with the pool, the marks and the shared indices of a test of address spaces. It needs a mark for each table.
+abbrev pub wrong_room : (from to : ℕ) → Loan → (marks : ℕ) → Option ℕ
+wrong_room from to lent marks =
+    option_or (unless (nat_le lent.free (length lent.array) && nat_le (length lent.tables) marks) status.bad_array) (wrong_indices from to)
+
+-- What is wrong with the arguments of a test of address spaces: the number of levels, or else the others.
 abbrev pub wrong_spaces_test : (levels from to : ℕ) → Loan → (marks : ℕ) → Option ℕ
-wrong_spaces_test levels from to lent marks = option_or (unless ((levels == 4) || (levels == 5)) status.bad_levels)
-    (option_or (unless (nat_le lent.free (length lent.array) && nat_le (length lent.tables) marks) status.bad_array) (wrong_indices from to))
+wrong_spaces_test levels from to lent marks = option_or (unless ((levels == 4) || (levels == 5)) status.bad_levels) (wrong_room from to lent marks)
+
+-- What is wrong with the arguments of a test of address spaces in the memory of a hierarchy, whose root isn't looked at.
+abbrev pub wrong_spaces_in : Given → (from to : ℕ) → Loan → (marks : ℕ) → Option ℕ
+wrong_spaces_in h from to lent marks = option_or (unless ((h.levels == 4) || (h.levels == 5)) status.bad_levels)
+    (option_or (wrong_segments h.segments.now) (wrong_room from to lent marks))
 
 -- What is wrong with any of the arguments of a call that makes a space: the template, what the caller lends, or the shared indices.
 abbrev pub bad_new : Given → Loan → (from to : ℕ) → Option ℕ
@@ -82,11 +95,11 @@ pub record FitTogether (own : List ℕ) (shared : ℕ → Bool) (spaces : List L
   pub are_spaces : AreSpaces shared (numbered lent.tables) (is_in own) (stacked lent.array lent.free) spaces
 
 -- The roots are distinct, and their hierarchies are address spaces that fit together with a pool that may take back the roots, too.
-pub record SpacesFit (shared : ℕ → Bool) (first levels : ℕ) (roots : List ℕ) (lent : Loan) : Type 0 where
+pub record SpacesFit (shared : ℕ → Bool) (places : Places) (levels : ℕ) (roots : List ℕ) (lent : Loan) : Type 0 where
   pub each_once : EachOnce roots
   pub own : List ℕ
   pub own_roots : (root : ℕ) → In roots root → is_in own root ≡ true
-  pub fit : FitTogether own shared (layouts_given first levels roots) lent
+  pub fit : FitTogether own shared (layouts_given places levels roots) lent
 
 -- ---- spaces that are made and given up
 
@@ -97,7 +110,7 @@ pub record Makes (own : List ℕ) (shared : ℕ → Bool) (template : Given) (le
   pub made : IsMade shared (hierarchy_in template lent.tables) (pool_in own lent.array lent.free) (space_at root) (numbered after.tables)
       (pool_in own after.array after.free)
   pub fit : (spaces : List Layout) → In spaces (layout_given template) → FitTogether own shared spaces lent
-      → FitTogether own shared (direct_at template.levels (shifted_places template.first) root ∷ spaces) after
+      → FitTogether own shared (direct_at template.levels (places_given template) root ∷ spaces) after
 
 -- A call to make a space returned this status, and left this of what the caller lent, and this where it writes the root.
 pub record MakesSpace (own : List ℕ) (template : Given) (lent : Loan) (from to result before : ℕ) (after : Loan) (root : ℕ) : Type 0 where
@@ -160,7 +173,7 @@ RequestsOrNothingKeepSpaces = (own : List ℕ) (shared : ℕ → Bool) (spaces :
 -- its root at the shared indices are as before.
 abbrev pub ChangesKeepSpaces : Type 0
 ChangesKeepSpaces = (own : List ℕ) (shared : ℕ → Bool) (spaces : List Layout) (tables now : List (List ℕ)) (array : List ℕ) (free : ℕ)
-    → FitTogether own shared spaces (loan tables array free) → (h : Given) → 0 < h.levels → In spaces (layout_given h) → (call : Call) (answer : Answer) (status : ℕ)
+    → FitTogether own shared spaces (loan tables array free) → (h : Given) → IsInOrder h → In spaces (layout_given h) → (call : Call) (answer : Answer) (status : ℕ)
     → Changes (hierarchy_in h tables) call answer (hierarchy_in h now) status
     → KeepsRootEntries shared (layout_given h) (numbered tables) (numbered now) → FitTogether own shared spaces (loan now array free)
 
@@ -175,7 +188,7 @@ RangeMapsKeepSpaces = (own : List ℕ) (shared : ℕ → Bool) (spaces : List La
 -- entries of its root at the shared indices are as before.
 abbrev pub RangeChangesKeepSpaces : Type 0
 RangeChangesKeepSpaces = (own : List ℕ) (shared : ℕ → Bool) (spaces : List Layout) (tables now : List (List ℕ)) (array : List ℕ) (free : ℕ)
-    → FitTogether own shared spaces (loan tables array free) → (h : Given) → 0 < h.levels → In spaces (layout_given h) → (calls : List Call) (replies : List Reply)
+    → FitTogether own shared spaces (loan tables array free) → (h : Given) → IsInOrder h → In spaces (layout_given h) → (calls : List Call) (replies : List Reply)
     → range.ChangesRange (hierarchy_in h tables) calls replies (hierarchy_in h now)
     → KeepsRootEntries shared (layout_given h) (numbered tables) (numbered now) → FitTogether own shared spaces (loan now array free)
 
@@ -211,6 +224,6 @@ RangeMapsKeepOthers = (own : List ℕ) (shared : ℕ → Bool) (spaces : List La
 -- index, they fit together again, and the others keep their path maps.
 abbrev pub RangeChangesKeepOthers : Type 0
 RangeChangesKeepOthers = (own : List ℕ) (shared : ℕ → Bool) (spaces : List Layout) (tables now : List (List ℕ)) (array : List ℕ) (free : ℕ)
-    → FitTogether own shared spaces (loan tables array free) → (h : Given) → 0 < h.levels → In spaces (layout_given h) → (calls : List Call) (replies : List Reply)
+    → FitTogether own shared spaces (loan tables array free) → (h : Given) → IsInOrder h → In spaces (layout_given h) → (calls : List Call) (replies : List Reply)
     → range.ChangesRange (hierarchy_in h tables) calls replies (hierarchy_in h now) → AllCalls h.levels calls → AllByRecursion (Avoids h.levels shared) calls
     → FitTogether own shared spaces (loan now array free) × OthersStay spaces h.root (numbered tables) (numbered now)

@@ -1,13 +1,15 @@
 -- What a caller hands in: which hierarchy it is, and which status says what is wrong with it.
-use Rattle.std.specs.Prelude.{◌≡◌, ℕ, ◌-◌, ◌/◌, ◌%◌, ◌^◌, ◌==◌, ◌&&◌, ◌||◌, nat_le, nat_lt, Bool, cond, List, Option, Some, None}
+use Rattle.std.specs.Prelude.{◌≡◌, ℕ, ◌-◌, ◌/◌, ◌%◌, ◌^◌, ◌==◌, ◌&&◌, ◌||◌, nat_le, nat_lt, Bool, cond, List, [], ◌∷◌, Option, Some, None}
 use Rattle.std.specs.Option.{option_or}
 use Rattle.x86_64_model.specs.Hierarchy as mapper
 use Rattle.x86_64_model.specs.Memory.{Memory, Places}
 use Rattle.x86_64_model.specs.Path.{path_at}
 use Rattle.x86_64_model.specs.Position.{lower_half, position_count}
 use Rattle.x86_64_mappers.specs.Layouts.{owned_at}
+use Rattle.x86_64_tables.specs.FrameSegments.{are_in_order, segment_places}
 use Rattle.x86_64_tables.specs.LentMemory.{numbered}
 use Rattle.x86_64_tables.specs.Shifted.{shifted_places}
+use Rattle.x86_64_tables.specs.declared.phys_memory.frame_segment.FrameSegment.{FrameSegment}
 use Rattle.x86_64_c.specs.Status as status
 use Rattle.x86_64_c.specs.declared.arguments.Hierarchy.{Hierarchy}
 use Rattle.x86_64_c.specs.declared.arguments.Located.{Located}
@@ -15,17 +17,23 @@ use Rattle.x86_64_c.specs.declared.arguments.AnyPage.{AnyPage}
 use Rattle.x86_64_c.specs.declared.arguments.AnyPage.TheVariants.{Of4KiB, Of2MiB, Of1GiB}
 use Rattle.x86_64_c.specs.declared.arguments.Page.{Page}
 
--- The hierarchy in the caller's tables: table i is that of the frame of number first + i.
+-- The places of frames in an array of tables. Without segments table i is that of the frame of number first + i, and with some each
+-- says which tables its frames have.
+abbrev pub places_by : (first : ℕ) → List FrameSegment → Places
+places_by first [] = shifted_places first
+places_by first (segment ∷ others) = segment_places (segment ∷ others)
+
+-- The places of frames in the caller's tables.
+abbrev pub places_given : Hierarchy → Places
+places_given h = places_by h.first h.segments.now
+
+-- The hierarchy in the caller's tables.
 abbrev pub hierarchy_in : Hierarchy → (tables : List (List ℕ)) → mapper.Hierarchy (Unit {0})
-hierarchy_in h tables = owned_at h.levels (shifted_places h.first) h.root (numbered tables) tt
+hierarchy_in h tables = owned_at h.levels (places_given h) h.root (numbered tables) tt
 
--- The places of frames in a located hierarchy.
-abbrev pub places_of : Located → Places
-places_of located = shifted_places located.mapping.first
-
--- The located hierarchy in a memory, with this number of levels.
-abbrev pub at : (levels : ℕ) → Located → Memory → mapper.Hierarchy (Unit {0})
-at levels located memory = owned_at levels (places_of located) located.root memory tt
+-- The located hierarchy in a memory, with this number of levels, whose frames lie where these places of its mapping say.
+abbrev pub at : {P : Type 0} → (places : P → Places) → (levels : ℕ) → Located P → Memory → mapper.Hierarchy (Unit {0})
+at places levels located memory = owned_at levels (places located.mapping) located.root memory tt
 
 -- This status if a test fails, and otherwise none.
 abbrev pub unless : (test : Bool) → (status : ℕ) → Option ℕ
@@ -35,14 +43,23 @@ unless test s = cond test None (Some s)
 abbrev pub starts_frame : (size start : ℕ) → Bool
 starts_frame size f = nat_lt f (2 ^ 52) && (f % size == 0)
 
--- Whether the 4KiB frame at an address has one of the tables.
-abbrev pub has_table : (first count frame : ℕ) → Bool
-has_table first count f = starts_frame 4096 f && (nat_le first (f / 4096) && nat_lt (f / 4096 - first) count)
+-- Whether the 4KiB frame at an address has one of so many tables.
+abbrev pub has_table : Places → (count frame : ℕ) → Bool
+has_table places count f = starts_frame 4096 f && (places.covers f && nat_lt (places.place f) count)
 
--- What is wrong with a hierarchy in an array of so many tables: its number of levels, or else its root.
+-- What is wrong with the address of a root, with these places of frames and so many tables.
+abbrev pub wrong_root : Places → (count root : ℕ) → Option ℕ
+wrong_root places count root = unless (has_table places count root) status.bad_root
+
+-- What is wrong with segments.
+abbrev pub wrong_segments : List FrameSegment → Option ℕ
+wrong_segments segments = unless (are_in_order segments) status.bad_segments
+
+-- What is wrong with a hierarchy in an array of so many tables: its number of levels, or else its segments, or else its root.
 abbrev pub bad_hierarchy : Hierarchy → (count : ℕ) → Option ℕ
 bad_hierarchy h count =
-    option_or (unless ((h.levels == 4) || (h.levels == 5)) status.bad_levels) (unless (has_table h.first count h.root) status.bad_root)
+    option_or (unless ((h.levels == 4) || (h.levels == 5)) status.bad_levels)
+    (option_or (wrong_segments h.segments.now) (wrong_root (places_given h) count h.root))
 
 -- Whether a raw value of 64 bits is canonical.
 abbrev pub is_canonical : (L value : ℕ) → Bool

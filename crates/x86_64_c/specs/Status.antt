@@ -86,3 +86,7 @@ bad_access = 22
 -- Shared indices are out of order, or one is above 511.
 abbrev pub bad_indices : ℕ
 bad_indices = 23
+
+-- The segments are out of order, overlap, have a place twice, or reach 2^64.
+abbrev pub bad_segments : ℕ
+bad_segments = 24

@@ -11,6 +11,7 @@ use crate::operation::{Operation, enter};
 use crate::status;
 use bitflags::Flags;
 use x86_64::structures::paging::PageTable;
+use x86_64::structures::paging::mapper::PageTableFrameMapping;
 use x86_64::{LevelCount, PhysAddr, TableMemory, VirtAddrIn};
 use x86_64_access::laws::{accesses_leave_only_marks, marks_keep_hierarchies};
 use x86_64_access::{Access, AccessKind, Fault, access, access_and_mark};
@@ -129,10 +130,10 @@ impl<'a> Operation for Asked<'a> {
         (memory_unit.outcome_of came ≡ access_outcome h asked.controls.now asked.request.now)
         × (after.memory ≡ memory_accessed h asked.controls.now asked.request.now) × StillFits h after };
 
-    fn execute<L: LevelCount, T: TableMemory>(
+    fn execute<L: LevelCount, T: TableMemory, P: PageTableFrameMapping + Copy>(
         &self,
         memory: &mut T,
-        located: Located,
+        located: Located<P>,
         _array: &mut [u64],
     ) -> Result<Result<PhysAddr, Fault>, u32> {
         let Some(access) = access_of(self.controls, self.request) else {
@@ -174,9 +175,9 @@ fn access_of(controls: &Controls, request: &AccessRequest) -> Option<Access>
 }
 
 /// Does what a processor does with an access at an address, and marks the entries if this is asked for.
-fn access_at<L: LevelCount, T: TableMemory>(
+fn access_at<L: LevelCount, T: TableMemory, P: PageTableFrameMapping + Copy>(
     memory: &mut T,
-    located: Located,
+    located: Located<P>,
     controls: &Controls,
     address: VirtAddrIn<L>,
     asked: Access,
@@ -184,12 +185,12 @@ fn access_at<L: LevelCount, T: TableMemory>(
 ) -> Result<PhysAddr, Fault>
     requires { controls.now.physical_bits ≤ 52 }
     ensures outcome { memory_unit.outcome_of result ≡ accesses.outcome_at
-        (given.at L.LEVELS located (T.tables memory.old)) controls.now address (memory_unit.access_of asked) }
+        (given.at P.places L.LEVELS located (T.tables memory.old)) controls.now address (memory_unit.access_of asked) }
     ensures marks { T.tables memory.new ≡ accesses.memory_at
-        (given.at L.LEVELS located (T.tables memory.old)) controls.now address (memory_unit.access_of asked)
+        (given.at P.places L.LEVELS located (T.tables memory.old)) controls.now address (memory_unit.access_of asked)
         mark }
-    ensures keeps { accesses.StillFits (given.at L.LEVELS located (T.tables memory.old))
-        (given.at L.LEVELS located (T.tables memory.new)) }
+    ensures keeps { accesses.StillFits (given.at P.places L.LEVELS located (T.tables memory.old))
+        (given.at P.places L.LEVELS located (T.tables memory.new)) }
     ensures lent { T.lent memory.new ≡ T.lent memory.old }
 {
     accesses_leave_only_marks();

@@ -2,6 +2,7 @@
 ghost use Rattle.std.specs.Prelude.{◌≡◌, ◌↔◌, ◌⊎◌, ℕ, List, length, reverse, IsTrue, true, Some, None, IfOk, IfErr};
 ghost use Rattle.std.specs.FinMap.{len};
 ghost use Rattle.x86_64_c.specs.AddressSpaces as spaces;
+ghost use Rattle.x86_64_c.specs.Arguments as given;
 ghost use Rattle.x86_64_c.specs.PoolCalls as calls;
 ghost use Rattle.x86_64_c.specs.Validity as validity;
 ghost use Rattle.x86_64_spaces.specs.Room.{spaces_in, ShareWithRoom};
@@ -14,10 +15,12 @@ use crate::operation::{Operation, enter};
 use crate::pool::{PoolStep, Stepped, with_pool};
 use crate::status;
 use crate::validity::status_of_test;
+use x86_64::structures::paging::mapper::PageTableFrameMapping;
 use x86_64::structures::paging::{PageTable, PhysFrame, Size4KiB};
 use x86_64::{
     FiveLevels, FourLevels, FrameStore, GiveUpError, LentMemory, LevelCount, OwnFrames,
-    SharedIndices, ShiftMapping, Space, TableMemory, give_up_space, new_space, roots_fit_by_marks,
+    SegmentMapping, SharedIndices, ShiftMapping, Space, TableMemory, give_up_space, new_space,
+    roots_fit_by_marks,
 };
 use x86_64_model::laws::spaces::{calls_keep_what_they_avoid, shared_halves_stay, spaces_stay};
 
@@ -27,7 +30,6 @@ use x86_64_model::laws::spaces::{calls_keep_what_they_avoid, shared_halves_stay,
 /// They are if the roots are distinct, each hierarchy is valid, all roots have the same words from index `shared_from` up to, but not
 /// including, `shared_to`, and no table is in two hierarchies but those below these indices. The marks, one for each table, may hold
 /// anything before and after. Returns `OK`, also for no root, `NOT_VALID`, or what is wrong with an argument.
-#[tactic(auto, using(crate::proofs::ArgumentsGiven::handed_back, crate::proofs::ArgumentsGiven::counted))]
 #[unsafe(no_mangle)]
 pub extern "C" fn x64_spaces_fit(
     first: u64,
@@ -46,14 +48,109 @@ pub extern "C" fn x64_spaces_fit(
     ensures fit { spaces.wrong_spaces_test levels shared_from shared_to
         (calls.loan tables.old pool.now free_count)
         (length marks.old) ≡ None → validity.TellsWhether (spaces.SpacesFit
-        (spaces.shared_in shared_from shared_to) first levels roots.now
+        (spaces.shared_in shared_from shared_to) (shifted_places first) levels roots.now
+        (calls.loan tables.old pool.now free_count)) result }
+    ensures tables { tables.new ≡ tables.old }
+{
+    if levels != 4 && levels != 5 {
+        return status::BAD_LEVELS;
+    }
+    test_spaces(
+        levels,
+        &ShiftMapping::new(first),
+        tables,
+        roots,
+        shared_from,
+        shared_to,
+        pool,
+        free_count,
+        marks,
+    )
+}
+
+/// Tests what `x64_spaces_fit` tests, with the number of levels of a hierarchy, in its memory, which may have segments. Its root isn't
+/// looked at.
+///
+/// Returns what `x64_spaces_fit` returns, or `BAD_SEGMENTS`.
+#[unsafe(no_mangle)]
+pub extern "C" fn x64_spaces_fit_in(
+    hierarchy: &Hierarchy,
+    tables: &mut [PageTable],
+    roots: &[u64],
+    shared_from: u64,
+    shared_to: u64,
+    pool: &[u64],
+    free_count: usize,
+    marks: &mut [bool],
+) -> u32
+    ensures bad { (status : ℕ) → spaces.wrong_spaces_in hierarchy.now shared_from shared_to
+        (calls.loan tables.old pool.now free_count) (length marks.old) ≡ Some status
+        → (result ≡ status) × (marks.new ≡ marks.old) }
+    ensures fit { spaces.wrong_spaces_in hierarchy.now shared_from shared_to
+        (calls.loan tables.old pool.now free_count)
+        (length marks.old) ≡ None → validity.TellsWhether (spaces.SpacesFit
+        (spaces.shared_in shared_from shared_to) (given.places_given hierarchy.now) hierarchy.now.levels
+        roots.now (calls.loan tables.old pool.now free_count)) result }
+    ensures tables { tables.new ≡ tables.old }
+{
+    let levels = hierarchy.levels;
+    if levels != 4 && levels != 5 {
+        return status::BAD_LEVELS;
+    }
+    if hierarchy.segments.is_empty() {
+        let mapping = ShiftMapping::new(hierarchy.first);
+        return test_spaces(
+            levels,
+            &mapping,
+            tables,
+            roots,
+            shared_from,
+            shared_to,
+            pool,
+            free_count,
+            marks,
+        );
+    }
+    let Ok(mapping) = SegmentMapping::new(hierarchy.segments) else {
+        return status::BAD_SEGMENTS;
+    };
+    test_spaces(
+        levels,
+        &mapping,
+        tables,
+        roots,
+        shared_from,
+        shared_to,
+        pool,
+        free_count,
+        marks,
+    )
+}
+
+/// Tests whether hierarchies with 4 or 5 levels of tables are address spaces that fit together, whose frames lie where a mapping says.
+#[tactic(auto, using(crate::proofs::ArgumentsGiven::handed_back, crate::proofs::ArgumentsGiven::counted))]
+fn test_spaces<P: PageTableFrameMapping>(
+    levels: u64,
+    mapping: &P,
+    tables: &mut [PageTable],
+    roots: &[u64],
+    shared_from: u64,
+    shared_to: u64,
+    pool: &[u64],
+    free_count: usize,
+    marks: &mut [bool],
+) -> u32
+    requires levels { levels ≡ 4 ⊎ levels ≡ 5 }
+    ensures bad { (status : ℕ) → spaces.wrong_room shared_from shared_to
+        (calls.loan tables.old pool.now free_count) (length marks.old) ≡ Some status
+        → (result ≡ status) × (marks.new ≡ marks.old) }
+    ensures fit { spaces.wrong_room shared_from shared_to (calls.loan tables.old pool.now free_count)
+        (length marks.old) ≡ None → validity.TellsWhether (spaces.SpacesFit
+        (spaces.shared_in shared_from shared_to) (P.places mapping.now) levels roots.now
         (calls.loan tables.old pool.now free_count)) result }
     ensures tables { tables.new ≡ tables.old }
 {
     let count = tables.len();
-    if levels != 4 && levels != 5 {
-        return status::BAD_LEVELS;
-    }
     if pool.len() < free_count || marks.len() < count {
         return status::BAD_ARRAY;
     }
@@ -62,7 +159,6 @@ pub extern "C" fn x64_spaces_fit(
         Err(status) => return status,
     };
     let memory = LentMemory::new(tables);
-    let mapping = ShiftMapping::new(first);
     let passed = fit(
         levels,
         &memory,
@@ -94,10 +190,10 @@ fn shared_indices(from: u64, to: u64) -> Result<SharedIndices, u32>
 
 /// Tests whether hierarchies with 4 or 5 levels of tables are address spaces, a pool of free frames fits each, and there is room for so
 /// many frames.
-fn fit<T: TableMemory>(
+fn fit<T: TableMemory, P: PageTableFrameMapping>(
     levels: u64,
     memory: &T,
-    mapping: ShiftMapping,
+    mapping: &P,
     roots: &[u64],
     shared: SharedIndices,
     free: &[u64],
@@ -107,16 +203,16 @@ fn fit<T: TableMemory>(
     requires levels { levels ≡ 4 ⊎ levels ≡ 5 }
     requires marks { length marks.old ≡ len (T.tables memory.now) }
     ensures { IsTrue result ↔ ShareWithRoom (indices_of shared)
-        (spaces_in levels (shifted_places mapping.first) (T.tables memory.now) (spaces_at roots.now))
+        (spaces_in levels (P.places mapping.now) (T.tables memory.now) (spaces_at roots.now))
         capacity (reverse free.now) }
 {
     if levels == 4 {
         roots_fit_by_marks::<FourLevels, _, _>(
-            memory, &mapping, roots, shared, free, capacity, marks,
+            memory, mapping, roots, shared, free, capacity, marks,
         )
     } else {
         roots_fit_by_marks::<FiveLevels, _, _>(
-            memory, &mapping, roots, shared, free, capacity, marks,
+            memory, mapping, roots, shared, free, capacity, marks,
         )
     }
 }
@@ -194,10 +290,10 @@ impl Operation for NewSpace {
         (shared_in new.shared_from new.shared_to) h array new.free_count after left made.free_count
         made.out };
 
-    fn execute<L: LevelCount, T: TableMemory>(
+    fn execute<L: LevelCount, T: TableMemory, P: PageTableFrameMapping + Copy>(
         &self,
         memory: &mut T,
-        located: Located,
+        located: Located<P>,
         array: &mut [u64],
     ) -> Result<Stepped<Option<PhysFrame<Size4KiB>>>, u32> {
         if array.len() < self.free_count {
@@ -211,7 +307,7 @@ impl Operation for NewSpace {
             });
         }
         let step = MakeRoot { shared };
-        Ok(with_pool::<L, _, _>(memory, located, &self.own, array, self.free_count, &step))
+        Ok(with_pool::<L, _, _, _>(memory, located, &self.own, array, self.free_count, &step))
     }
 }
 
@@ -237,14 +333,14 @@ impl<L: LevelCount> PoolStep<L> for MakeRoot {
     ghost does = { λ make h pool after rest made. TakesFirst pool made rest × IfSome made (λ root.
         IsMade (indices_of make.shared) h pool (space_at root) after.memory rest) };
 
-    fn take<T: TableMemory, F: FrameStore>(
+    fn take<T: TableMemory, P: PageTableFrameMapping + Copy, F: FrameStore>(
         &self,
         memory: &mut T,
-        located: Located,
+        located: Located<P>,
         frames: &mut F,
         _free_count: usize,
     ) -> Option<PhysFrame<Size4KiB>> {
-        let template = space_of(located);
+        let template = space_of(located.root);
         new_space::<L, _, _, _>(
             memory,
             &located.mapping,
@@ -334,10 +430,10 @@ impl Operation for GiveUp {
         (shared_in gone.shared_from gone.shared_to) h array gone.free_count after left given_up.free_count
         given_up.out };
 
-    fn execute<L: LevelCount, T: TableMemory>(
+    fn execute<L: LevelCount, T: TableMemory, P: PageTableFrameMapping + Copy>(
         &self,
         memory: &mut T,
-        located: Located,
+        located: Located<P>,
         array: &mut [u64],
     ) -> Result<Stepped<Result<(), GiveUpError>>, u32> {
         if self.root == 0 {
@@ -348,7 +444,7 @@ impl Operation for GiveUp {
         }
         let shared = shared_indices(self.shared_from, self.shared_to)?;
         let step = GiveUpRoot { shared };
-        Ok(with_pool::<L, _, _>(memory, located, &self.own, array, self.free_count, &step))
+        Ok(with_pool::<L, _, _, _>(memory, located, &self.own, array, self.free_count, &step))
     }
 }
 
@@ -375,14 +471,14 @@ impl<L: LevelCount> PoolStep<L> for GiveUpRoot {
         IfErr given_up (λ why. IsReason (indices_of give_up.shared) h why)
         × OnOk given_up (IsGivenUp (indices_of give_up.shared) h pool after.memory rest) };
 
-    fn take<T: TableMemory, F: FrameStore>(
+    fn take<T: TableMemory, P: PageTableFrameMapping + Copy, F: FrameStore>(
         &self,
         memory: &mut T,
-        located: Located,
+        located: Located<P>,
         frames: &mut F,
         _free_count: usize,
     ) -> Result<(), GiveUpError> {
-        let space = space_of(located);
+        let space = space_of(located.root);
         give_up_space::<L, _, _, _>(memory, &located.mapping, &space, self.shared, frames)
     }
 
@@ -390,12 +486,12 @@ impl<L: LevelCount> PoolStep<L> for GiveUpRoot {
         own_gone own array count same (indices_of give_up.shared) h after.memory free rest given_up };
 }
 
-/// Returns the address space of a hierarchy.
-fn space_of(located: Located) -> Space
-    ensures { result ≡ spaces.space_at located.root }
+/// Returns the address space with this root.
+fn space_of(root: PhysFrame<Size4KiB>) -> Space
+    ensures { result ≡ spaces.space_at root }
 {
     Space {
-        root: located.root,
+        root,
         recursive: None,
     }
 }

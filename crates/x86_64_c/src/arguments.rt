@@ -2,22 +2,24 @@
 ghost use Rattle.std.specs.Prelude.{◌≡◌, true, false, Some, None, IfOk, IfErr, IfSome, IfNone};
 ghost use Rattle.x86_64_c.specs.Arguments as given;
 ghost use Rattle.x86_64_c.specs.Status as status;
-ghost use Rattle.x86_64_tables.specs.Shifted.{shifted_places};
 
 use crate::status;
+use x86_64::structures::paging::mapper::PageTableFrameMapping;
 use x86_64::structures::paging::{PageIn, PageSize, PhysFrame, Size1GiB, Size2MiB, Size4KiB};
-use x86_64::{LevelCount, PhysAddr, ShiftMapping, VirtAddrIn};
+use x86_64::{FrameSegment, LevelCount, PhysAddr, VirtAddrIn};
 
 /// A hierarchy of page tables in an array of tables.
 #[derive(Drop)]
 #[repr(C)]
-pub struct Hierarchy {
-    /// The number of the frame that table 0 is: table i is that of the frame of number `first` + i.
+pub struct Hierarchy<'a> {
+    /// Without segments the number of the frame that table 0 is: table i is that of the frame of number `first` + i.
     pub first: u64,
     /// The physical address of the root's frame.
     pub root: u64,
     /// The number of levels of tables: 4 or 5.
     pub levels: u64,
+    /// Which frames have which tables, for a memory with holes. None: see `first`.
+    pub segments: &'a [FrameSegment],
 }
 
 /// A page.
@@ -54,26 +56,30 @@ pub enum AnyPage<L: LevelCount> {
 
 /// Where a hierarchy starts, and where frames lie.
 #[derive(Clone, Copy)]
-pub struct Located {
+pub struct Located<P> {
     pub root: PhysFrame<Size4KiB>,
-    pub mapping: ShiftMapping,
+    pub mapping: P,
 }
 
-/// Locates a hierarchy of `L` levels of tables in an array of so many tables, if its root is one of them.
-pub fn locate<L: LevelCount>(hierarchy: &Hierarchy, table_count: usize) -> Option<Located>
-    requires { hierarchy.now.levels ≡ L.LEVELS }
-    ensures bad { IfNone result (given.bad_hierarchy hierarchy.now table_count ≡ Some status.bad_root) }
-    ensures good { IfSome result (λ _. given.bad_hierarchy hierarchy.now table_count ≡ None) }
-    ensures root { IfSome result (λ located. located.root ≡ hierarchy.now.root) }
-    ensures places { IfSome result (λ located. given.places_of located ≡ shifted_places hierarchy.now.first) }
+/// Locates a hierarchy with this root in an array of so many tables, if the root is one of them.
+pub fn locate<P: PageTableFrameMapping + Copy>(
+    root: u64,
+    mapping: P,
+    table_count: usize,
+) -> Option<Located<P>>
+    ensures bad { IfNone result (given.wrong_root (P.places mapping) table_count root
+        ≡ Some status.bad_root) }
+    ensures good { IfSome result (λ _. given.wrong_root (P.places mapping) table_count root ≡ None) }
+    ensures root { IfSome result (λ located. located.root ≡ root) }
+    ensures mapping { IfSome result (λ located. located.mapping ≡ mapping) }
 {
-    let root = frame_at::<Size4KiB>(hierarchy.root).ok()?;
-    let place = root.pfn().checked_sub(hierarchy.first)?;
-    if place < table_count as u64 {
-        Some(Located {
-            root,
-            mapping: ShiftMapping::new(hierarchy.first),
-        })
+    let root = frame_at::<Size4KiB>(root).ok()?;
+    if !mapping.covers(root) {
+        return None;
+    }
+    let place = mapping.frame_to_pointer(root);
+    if place.number() < table_count as u64 {
+        Some(Located { root, mapping })
     } else {
         None
     }

@@ -14,7 +14,8 @@ use crate::operation::{Operation, enter};
 use crate::status::{self, flags_status};
 use bitflags::Flags;
 use x86_64::structures::paging::mapper::{
-    FlagUpdateError, MappedPageTableIn, MapperFlushAll, MapperFlushIn, TablesIn, UnmapError,
+    FlagUpdateError, MappedPageTableIn, MapperFlushAll, MapperFlushIn, PageTableFrameMapping,
+    TablesIn, UnmapError,
 };
 use x86_64::structures::paging::{PageIn, PageSize, PageTable, PageTableFlags, PhysFrame};
 use x86_64::{LevelCount, TableMemory, is_outside_window};
@@ -37,16 +38,16 @@ pub trait EntryChange {
         ensures { result ≡ wrong self.now levels };
 
     /// Makes the change.
-    fn make<S: PageSize, L: LevelCount, T: TableMemory>(
+    fn make<S: PageSize, L: LevelCount, T: TableMemory, P: PageTableFrameMapping + Copy>(
         &self,
         memory: &mut T,
-        located: Located,
+        located: Located<P>,
         page: PageIn<S, L>,
     ) -> Self::Out
         requires good { wrong self.now L.LEVELS ≡ None }
-        requires valid { Valid (given.at L.LEVELS located (T.tables memory.old)) }
-        ensures makes { makes self.now (given.at L.LEVELS located (T.tables memory.old))
-            (path_at L.LEVELS S.LEVEL page) (given.at L.LEVELS located (T.tables memory.new)) result }
+        requires valid { Valid (given.at P.places L.LEVELS located (T.tables memory.old)) }
+        ensures makes { makes self.now (given.at P.places L.LEVELS located (T.tables memory.old))
+            (path_at L.LEVELS S.LEVEL page) (given.at P.places L.LEVELS located (T.tables memory.new)) result }
         ensures lent { T.lent memory.new ≡ T.lent memory.old };
 }
 
@@ -74,10 +75,10 @@ impl<'a, C: EntryChange> Operation for OnPage<'a, C> {
     ghost does = { λ on h array after left out.
         C.makes on.change.now h (path_of_page h.layout.levels on.page.now) after out };
 
-    fn execute<L: LevelCount, T: TableMemory>(
+    fn execute<L: LevelCount, T: TableMemory, P: PageTableFrameMapping + Copy>(
         &self,
         memory: &mut T,
-        located: Located,
+        located: Located<P>,
         _array: &mut [u64],
     ) -> Result<C::Out, u32> {
         if let Some(wrong) = self.change.wrong_with(L::LEVELS) {
@@ -156,10 +157,10 @@ impl EntryChange for Unmap {
         None
     }
 
-    fn make<S: PageSize, L: LevelCount, T: TableMemory>(
+    fn make<S: PageSize, L: LevelCount, T: TableMemory, P: PageTableFrameMapping + Copy>(
         &self,
         memory: &mut T,
-        located: Located,
+        located: Located<P>,
         page: PageIn<S, L>,
     ) -> Told {
         let mut mapper = MappedPageTableIn::<_, L, T>::new(memory, located.root, located.mapping);
@@ -265,10 +266,10 @@ impl EntryChange for FlagsOfPage {
         None
     }
 
-    fn make<S: PageSize, L: LevelCount, T: TableMemory>(
+    fn make<S: PageSize, L: LevelCount, T: TableMemory, P: PageTableFrameMapping + Copy>(
         &self,
         memory: &mut T,
-        located: Located,
+        located: Located<P>,
         page: PageIn<S, L>,
     ) -> u32 {
         if self.flags.has_address_bits() {
@@ -360,10 +361,10 @@ impl EntryChange for FlagsOfTable {
         }
     }
 
-    fn make<S: PageSize, L: LevelCount, T: TableMemory>(
+    fn make<S: PageSize, L: LevelCount, T: TableMemory, P: PageTableFrameMapping + Copy>(
         &self,
         memory: &mut T,
-        located: Located,
+        located: Located<P>,
         page: PageIn<S, L>,
     ) -> u32 {
         let mut mapper = MappedPageTableIn::<_, L, T>::new(memory, located.root, located.mapping);

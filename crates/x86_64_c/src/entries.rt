@@ -7,6 +7,7 @@ use crate::arguments::{Hierarchy, Located, address_of};
 use crate::operation::{Operation, enter};
 use crate::status;
 use x86_64::structures::paging::PageTable;
+use x86_64::structures::paging::mapper::PageTableFrameMapping;
 use x86_64::{LevelCount, TableMemory};
 use x86_64_mappings::{EntriesRead, WalkEntry, read_entries};
 
@@ -63,10 +64,10 @@ impl Operation for EntriesTo {
         (after.memory ≡ h.memory) × WritesEntries (steps_walked h to.address) array (walk_end_status read.end)
         left read.count };
 
-    fn execute<L: LevelCount, T: TableMemory>(
+    fn execute<L: LevelCount, T: TableMemory, P: PageTableFrameMapping + Copy>(
         &self,
         memory: &mut T,
-        located: Located,
+        located: Located<P>,
         array: &mut [WalkEntry],
     ) -> Result<EntriesRead, u32> {
         if (array.len() as u64) < L::LEVELS {

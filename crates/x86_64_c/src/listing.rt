@@ -116,10 +116,10 @@ impl Operation for Listing {
         (after.memory ≡ h.memory) × WritesMappings all h.layout.levels array left listed.count
         × (listed.next ≡ next_of h.layout.levels (drop (length array) all)) };
 
-    fn execute<L: LevelCount, T: TableMemory>(
+    fn execute<L: LevelCount, T: TableMemory, P: PageTableFrameMapping + Copy>(
         &self,
         memory: &mut T,
-        located: Located,
+        located: Located<P>,
         array: &mut [Mapping],
     ) -> Result<Listed, u32> {
         let from = address_of::<L>(self.from)?;

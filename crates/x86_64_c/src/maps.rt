@@ -12,6 +12,7 @@ use crate::pool::{PoolStep, Stepped, with_pool};
 use crate::pool_calls::mapped_status;
 use crate::status;
 use bitflags::Flags;
+use x86_64::structures::paging::mapper::PageTableFrameMapping;
 use x86_64::structures::paging::{PageIn, PageSize, PageTable, PageTableFlags};
 use x86_64::{FrameStore, LevelCount, OwnFrames, TableMemory};
 use x86_64_live::{PageMap, map_or_nothing, may_map};
@@ -78,10 +79,10 @@ impl<'a> Operation for WholeMap<'a> {
     ghost does = { λ map h array after left mapped. RunsOrNothing map.own.frames h array map.free_count
         (map_asked h.layout.levels map.request.now) after left mapped.free_count mapped.out };
 
-    fn execute<L: LevelCount, T: TableMemory>(
+    fn execute<L: LevelCount, T: TableMemory, P: PageTableFrameMapping + Copy>(
         &self,
         memory: &mut T,
-        located: Located,
+        located: Located<P>,
         array: &mut [u64],
     ) -> Result<Stepped<u32>, u32> {
         if array.len() < self.free_count {
@@ -98,10 +99,10 @@ impl<'a> Operation for WholeMap<'a> {
 
 impl<'a> WholeMap<'a> {
     /// Maps the page to the frame of the request.
-    fn map_page<S: PageSize, L: LevelCount, T: TableMemory>(
+    fn map_page<S: PageSize, L: LevelCount, T: TableMemory, P: PageTableFrameMapping + Copy>(
         &self,
         memory: &mut T,
-        located: Located,
+        located: Located<P>,
         page: PageIn<S, L>,
         array: &mut [u64],
     ) -> Result<Stepped<u32>, u32>
@@ -109,16 +110,16 @@ impl<'a> WholeMap<'a> {
         requires page { given.wrong_page L.LEVELS self.now.request.now.page ≡ None }
         requires is_page { given.IsPageOf L.LEVELS self.now.request.now.page S.LEVEL page }
         requires fits { calls.bad_map L.LEVELS self.now.request.now ≡ None
-            → pools.FitsIn self.now.own.frames (given.at L.LEVELS located (T.tables memory.old)) array.old
+            → pools.FitsIn self.now.own.frames (given.at P.places L.LEVELS located (T.tables memory.old)) array.old
             self.now.free_count }
         ensures bad { IfErr result (λ status. calls.bad_map L.LEVELS self.now.request.now ≡ Some status) }
         ensures unchanged { OnErr result ((T.tables memory.new ≡ T.tables memory.old)
             × (array.new ≡ array.old)) }
         ensures good { IfOk result (λ _. calls.bad_map L.LEVELS self.now.request.now ≡ None) }
         ensures does { IfOk result (λ mapped. RunsOrNothing self.now.own.frames
-            (given.at L.LEVELS located (T.tables memory.old)) array.old self.now.free_count
+            (given.at P.places L.LEVELS located (T.tables memory.old)) array.old self.now.free_count
             (calls.map_asked L.LEVELS self.now.request.now)
-            (given.at L.LEVELS located (T.tables memory.new)) array.new mapped.free_count mapped.out) }
+            (given.at P.places L.LEVELS located (T.tables memory.new)) array.new mapped.free_count mapped.out) }
         ensures lent { T.lent memory.new ≡ T.lent memory.old }
     {
         let frame = frame_at::<S>(self.request.frame)?;
@@ -150,10 +151,10 @@ impl<S: PageSize, L: LevelCount> PoolStep<L> for PageMap<S, L> {
         (MapToWithTableFlags map.page map.frame (bits_of map.flags) (bits_of map.parent_flags)))
         after rest status };
 
-    fn take<T: TableMemory, F: FrameStore>(
+    fn take<T: TableMemory, P: PageTableFrameMapping + Copy, F: FrameStore>(
         &self,
         memory: &mut T,
-        located: Located,
+        located: Located<P>,
         frames: &mut F,
         free_count: usize,
     ) -> u32 {

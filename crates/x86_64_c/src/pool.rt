@@ -8,6 +8,7 @@ ghost use Rattle.x86_64_model.specs.Store.{StoreFits, Store, store_of};
 ghost use Rattle.x86_64_tables.specs.LentPool.{is_in, served_by};
 
 use crate::arguments::Located;
+use x86_64::structures::paging::mapper::PageTableFrameMapping;
 use x86_64::{FrameStore, LentPool, LevelCount, OwnFrames, TableMemory};
 
 /// What an operation with right arguments does to a hierarchy of `L` levels of tables and to a store of frames.
@@ -26,19 +27,19 @@ pub trait PoolStep<L: LevelCount> {
         → (after : mapper.Hierarchy (Unit {0})) → (rest : Store) → (out : Self.Out) → Type 0 };
 
     /// Takes the step. The store has `free_count` free frames.
-    fn take<T: TableMemory, F: FrameStore>(
+    fn take<T: TableMemory, P: PageTableFrameMapping + Copy, F: FrameStore>(
         &self,
         memory: &mut T,
-        located: Located,
+        located: Located<P>,
         frames: &mut F,
         free_count: usize,
     ) -> Self::Out
-        requires fits { StoreFits (given.at L.LEVELS located (T.tables memory.old))
+        requires fits { StoreFits (given.at P.places L.LEVELS located (T.tables memory.old))
             (store_of F.FrameStore frames.old) }
         requires root { gives_root self.now ≡ true → F.serves frames.old located.root ≡ true }
         requires count { length (F.supply frames.old) ≡ free_count }
-        ensures does { does self.now (given.at L.LEVELS located (T.tables memory.old))
-            (store_of F.FrameStore frames.old) (given.at L.LEVELS located (T.tables memory.new))
+        ensures does { does self.now (given.at P.places L.LEVELS located (T.tables memory.old))
+            (store_of F.FrameStore frames.old) (given.at P.places L.LEVELS located (T.tables memory.new))
             (store_of F.FrameStore frames.new) result }
         ensures unchanged { refused result ≡ true
             → (T.tables memory.new ≡ T.tables memory.old) × (frames.new ≡ frames.old) }
@@ -72,21 +73,21 @@ fn once_more(own: &OwnFrames) -> OwnFrames
 }
 
 /// Takes a step with the pool in an array whose first entries are its free frames.
-pub fn with_pool<L: LevelCount, T: TableMemory, S: PoolStep<L>>(
+pub fn with_pool<L: LevelCount, T: TableMemory, P: PageTableFrameMapping + Copy, S: PoolStep<L>>(
     memory: &mut T,
-    located: Located,
+    located: Located<P>,
     own: &OwnFrames,
     array: &mut [u64],
     free_count: usize,
     step: &S,
 ) -> Stepped<S::Out>
     requires in_array { free_count ≤ length array.old }
-    requires fits { pools.FitsIn own.now.frames (given.at L.LEVELS located (T.tables memory.old)) array.old
+    requires fits { pools.FitsIn own.now.frames (given.at P.places L.LEVELS located (T.tables memory.old)) array.old
         free_count }
     requires root { S.gives_root step.now ≡ true → is_in own.now.frames located.root ≡ true }
     ensures does { pools.Leaves own.now.frames array.old free_count array.new result.free_count
-        (λ pool rest. S.does step.now (given.at L.LEVELS located (T.tables memory.old)) pool
-        (given.at L.LEVELS located (T.tables memory.new)) rest result.out) }
+        (λ pool rest. S.does step.now (given.at P.places L.LEVELS located (T.tables memory.old)) pool
+        (given.at P.places L.LEVELS located (T.tables memory.new)) rest result.out) }
     ensures unchanged { S.refused result.out ≡ true → (T.tables memory.new ≡ T.tables memory.old)
         × (array.new ≡ array.old) × (result.free_count ≡ free_count) }
     ensures lent { T.lent memory.new ≡ T.lent memory.old }

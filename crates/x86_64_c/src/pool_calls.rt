@@ -12,7 +12,9 @@ use crate::operation::{Operation, enter};
 use crate::pool::{PoolStep, Stepped, with_pool};
 use crate::status::{self, map_status};
 use bitflags::Flags;
-use x86_64::structures::paging::mapper::{MapToError, MappedPageTableIn, MapperFlushIn};
+use x86_64::structures::paging::mapper::{
+    MapToError, MappedPageTableIn, MapperFlushIn, PageTableFrameMapping,
+};
 use x86_64::structures::paging::{
     PageIn, PageSize, PageTable, PageTableFlags, PhysFrame, Size4KiB,
 };
@@ -80,10 +82,10 @@ impl<'a> Operation for Map<'a> {
         Leaves map.own.frames array map.free_count left mapped.free_count
         (λ pool rest. RunsCall h pool (map_asked h.layout.levels map.request.now) after rest mapped.out) };
 
-    fn execute<L: LevelCount, T: TableMemory>(
+    fn execute<L: LevelCount, T: TableMemory, P: PageTableFrameMapping + Copy>(
         &self,
         memory: &mut T,
-        located: Located,
+        located: Located<P>,
         array: &mut [u64],
     ) -> Result<Stepped<u32>, u32> {
         if array.len() < self.free_count {
@@ -100,10 +102,10 @@ impl<'a> Operation for Map<'a> {
 
 impl<'a> Map<'a> {
     /// Maps the page to the frame of the request.
-    fn map_page<S: PageSize, L: LevelCount, T: TableMemory>(
+    fn map_page<S: PageSize, L: LevelCount, T: TableMemory, P: PageTableFrameMapping + Copy>(
         &self,
         memory: &mut T,
-        located: Located,
+        located: Located<P>,
         page: PageIn<S, L>,
         array: &mut [u64],
     ) -> Result<Stepped<u32>, u32>
@@ -111,7 +113,7 @@ impl<'a> Map<'a> {
         requires page { given.wrong_page L.LEVELS self.now.request.now.page ≡ None }
         requires is_page { given.IsPageOf L.LEVELS self.now.request.now.page S.LEVEL page }
         requires fits { calls.bad_map L.LEVELS self.now.request.now ≡ None
-            → pools.FitsIn self.now.own.frames (given.at L.LEVELS located (T.tables memory.old)) array.old
+            → pools.FitsIn self.now.own.frames (given.at P.places L.LEVELS located (T.tables memory.old)) array.old
             self.now.free_count }
         ensures bad { IfErr result (λ status. calls.bad_map L.LEVELS self.now.request.now ≡ Some status) }
         ensures unchanged { OnErr result ((T.tables memory.new ≡ T.tables memory.old)
@@ -119,9 +121,9 @@ impl<'a> Map<'a> {
         ensures good { IfOk result (λ _. calls.bad_map L.LEVELS self.now.request.now ≡ None) }
         ensures does { IfOk result (λ mapped. pools.Leaves self.now.own.frames array.old self.now.free_count
             array.new mapped.free_count (λ pool rest. calls.RunsCall
-            (given.at L.LEVELS located (T.tables memory.old)) pool
+            (given.at P.places L.LEVELS located (T.tables memory.old)) pool
             (calls.map_asked L.LEVELS self.now.request.now)
-            (given.at L.LEVELS located (T.tables memory.new)) rest mapped.out)) }
+            (given.at P.places L.LEVELS located (T.tables memory.new)) rest mapped.out)) }
         ensures lent { T.lent memory.new ≡ T.lent memory.old }
     {
         let frame = frame_at::<S>(self.request.frame)?;
@@ -161,10 +163,10 @@ impl<S: PageSize, L: LevelCount> PoolStep<L> for MapTo<S, L> {
         (MapToWithTableFlags map.page map.frame (bits_of map.flags) (bits_of map.parent_flags)))
         after rest status };
 
-    fn take<T: TableMemory, F: FrameStore>(
+    fn take<T: TableMemory, P: PageTableFrameMapping + Copy, F: FrameStore>(
         &self,
         memory: &mut T,
-        located: Located,
+        located: Located<P>,
         frames: &mut F,
         _free_count: usize,
     ) -> u32 {
@@ -268,10 +270,10 @@ impl Operation for CleanUp {
         RunsCall h pool (clean_up_call h.layout.levels new.first_page new.last_page) after rest
         cleaned.out) };
 
-    fn execute<L: LevelCount, T: TableMemory>(
+    fn execute<L: LevelCount, T: TableMemory, P: PageTableFrameMapping + Copy>(
         &self,
         memory: &mut T,
-        located: Located,
+        located: Located<P>,
         array: &mut [u64],
     ) -> Result<Stepped<u32>, u32> {
         if array.len() < self.free_count {
@@ -307,10 +309,10 @@ impl<L: LevelCount> PoolStep<L> for PagesTo<L> {
     ghost does = { λ pages h pool after rest status.
         RunsCall h pool (CleanUpRange pages.first (pages.last + 0xfff)) after rest status };
 
-    fn take<T: TableMemory, F: FrameStore>(
+    fn take<T: TableMemory, P: PageTableFrameMapping + Copy, F: FrameStore>(
         &self,
         memory: &mut T,
-        located: Located,
+        located: Located<P>,
         frames: &mut F,
         _free_count: usize,
     ) -> u32 {

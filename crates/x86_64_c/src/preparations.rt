@@ -13,7 +13,7 @@ use crate::operation::{Operation, enter};
 use crate::pool::{PoolStep, Stepped, with_pool};
 use crate::status::{self, map_status};
 use bitflags::Flags;
-use x86_64::structures::paging::mapper::MapToError;
+use x86_64::structures::paging::mapper::{MapToError, PageTableFrameMapping};
 use x86_64::structures::paging::{PageIn, PageSize, PageTable, PageTableFlags};
 use x86_64::{FrameStore, LevelCount, OwnFrames, TableMemory};
 use x86_64_live::{may_prepare, prepare};
@@ -84,10 +84,10 @@ impl<'a> Operation for Preparation<'a> {
         (level_of_page_size new.page.now.size) (position_of h.layout.levels new.page.now.start)
         new.parent_flags after left prepared.free_count prepared.out };
 
-    fn execute<L: LevelCount, T: TableMemory>(
+    fn execute<L: LevelCount, T: TableMemory, P: PageTableFrameMapping + Copy>(
         &self,
         memory: &mut T,
-        located: Located,
+        located: Located<P>,
         array: &mut [u64],
     ) -> Result<Stepped<u32>, u32> {
         if array.len() < self.free_count {
@@ -104,22 +104,22 @@ impl<'a> Operation for Preparation<'a> {
 
 impl<'a> Preparation<'a> {
     /// Makes the tables above the page.
-    fn prepare_page<S: PageSize, L: LevelCount, T: TableMemory>(
+    fn prepare_page<S: PageSize, L: LevelCount, T: TableMemory, P: PageTableFrameMapping + Copy>(
         &self,
         memory: &mut T,
-        located: Located,
+        located: Located<P>,
         page: PageIn<S, L>,
         array: &mut [u64],
     ) -> Stepped<u32>
         requires in_array { self.now.free_count ≤ length array.old }
         requires is_page { given.IsPageOf L.LEVELS self.now.page.now S.LEVEL page }
-        requires fits { pools.FitsIn self.now.own.frames (given.at L.LEVELS located (T.tables memory.old))
+        requires fits { pools.FitsIn self.now.own.frames (given.at P.places L.LEVELS located (T.tables memory.old))
             array.old self.now.free_count }
         ensures prepares { PreparesIn self.now.own.frames
-            (given.at L.LEVELS located (T.tables memory.old)) array.old self.now.free_count
+            (given.at P.places L.LEVELS located (T.tables memory.old)) array.old self.now.free_count
             (given.level_of_page_size self.now.page.now.size)
             (given.position_of L.LEVELS self.now.page.now.start) self.now.parent_flags
-            (given.at L.LEVELS located (T.tables memory.new)) array.new result.free_count result.out }
+            (given.at P.places L.LEVELS located (T.tables memory.new)) array.new result.free_count result.out }
         ensures lent { T.lent memory.new ≡ T.lent memory.old }
     {
         let tables = TablesAbove {
@@ -153,10 +153,10 @@ impl<S: PageSize, L: LevelCount> PoolStep<L> for TablesAbove<S, L> {
     ghost does = { λ new h pool after rest status.
         PreparesPage h pool S.LEVEL new.page (bits_of new.parent_flags) after rest status };
 
-    fn take<T: TableMemory, F: FrameStore>(
+    fn take<T: TableMemory, P: PageTableFrameMapping + Copy, F: FrameStore>(
         &self,
         memory: &mut T,
-        located: Located,
+        located: Located<P>,
         frames: &mut F,
         free_count: usize,
     ) -> u32 {

@@ -16,7 +16,9 @@ use crate::operation::{Operation, enter};
 use crate::pool::{PoolStep, Stepped, with_pool};
 use crate::status::{self, map_status};
 use bitflags::Flags;
-use x86_64::structures::paging::mapper::{MapRangeErrorIn, MappedPageTableIn, MapperFlushRangeIn};
+use x86_64::structures::paging::mapper::{
+    MapRangeErrorIn, MappedPageTableIn, MapperFlushRangeIn, PageTableFrameMapping,
+};
 use x86_64::structures::paging::{PageIn, PageSize, PageTable, PageTableFlags, PhysFrame};
 use x86_64::{FrameStore, LevelCount, OwnFrames, TableMemory};
 use x86_64_mappers::calls::{self, FrameSink};
@@ -162,10 +164,10 @@ impl<'a> Operation for MapFrom<'a> {
         (range_asked h.layout.levels map.request.now) map.count h array map.free_count after left
         mapped.free_count mapped.out };
 
-    fn execute<L: LevelCount, T: TableMemory>(
+    fn execute<L: LevelCount, T: TableMemory, P: PageTableFrameMapping + Copy>(
         &self,
         memory: &mut T,
-        located: Located,
+        located: Located<P>,
         array: &mut [u64],
     ) -> Result<Stepped<Mapped>, u32> {
         if array.len() < self.free_count {
@@ -182,10 +184,10 @@ impl<'a> Operation for MapFrom<'a> {
 
 impl<'a> MapFrom<'a> {
     /// Maps the pages from a page on to the frames of the request.
-    fn map_from<S: PageSize, L: LevelCount, T: TableMemory>(
+    fn map_from<S: PageSize, L: LevelCount, T: TableMemory, P: PageTableFrameMapping + Copy>(
         &self,
         memory: &mut T,
-        located: Located,
+        located: Located<P>,
         page: PageIn<S, L>,
         array: &mut [u64],
     ) -> Result<Stepped<Mapped>, u32>
@@ -194,7 +196,7 @@ impl<'a> MapFrom<'a> {
         requires size { self.now.request.now.page.size ≡ span S.LEVEL }
         requires is_page { given.IsPageOf L.LEVELS self.now.request.now.page S.LEVEL page }
         requires fits { ranges.bad_maps L.LEVELS self.now.request.now self.now.count ≡ None
-            → pools.FitsIn self.now.own.frames (given.at L.LEVELS located (T.tables memory.old)) array.old
+            → pools.FitsIn self.now.own.frames (given.at P.places L.LEVELS located (T.tables memory.old)) array.old
             self.now.free_count }
         ensures bad { IfErr result (λ status.
             ranges.bad_maps L.LEVELS self.now.request.now self.now.count ≡ Some status) }
@@ -204,8 +206,8 @@ impl<'a> MapFrom<'a> {
             ranges.bad_maps L.LEVELS self.now.request.now self.now.count ≡ None) }
         ensures does { IfOk result (λ mapped. maps.MapsInPool self.now.own.frames
             (ranges.range_asked L.LEVELS self.now.request.now) self.now.count
-            (given.at L.LEVELS located (T.tables memory.old)) array.old self.now.free_count
-            (given.at L.LEVELS located (T.tables memory.new)) array.new mapped.free_count mapped.out) }
+            (given.at P.places L.LEVELS located (T.tables memory.old)) array.old self.now.free_count
+            (given.at P.places L.LEVELS located (T.tables memory.new)) array.new mapped.free_count mapped.out) }
         ensures lent { T.lent memory.new ≡ T.lent memory.old }
     {
         let frame = first_frame::<S>(self.request.frame, self.count)?;
@@ -245,10 +247,10 @@ impl<S: PageSize, L: LevelCount> PoolStep<L> for RangeMap<S, L> {
     ghost does = { λ map h pool after rest mapped.
         TellsMaps h pool (range_of_request S.LEVEL map) map.count after rest mapped };
 
-    fn take<T: TableMemory, F: FrameStore>(
+    fn take<T: TableMemory, P: PageTableFrameMapping + Copy, F: FrameStore>(
         &self,
         memory: &mut T,
-        located: Located,
+        located: Located<P>,
         frames: &mut F,
         _free_count: usize,
     ) -> Mapped {
@@ -408,10 +410,10 @@ impl<'a> Operation for UnmapFrom<'a> {
         (position_of h.layout.levels from.first.now.start) from.count array after
         (end_status unmapped.done from.count) left unmapped.frame_count unmapped.done };
 
-    fn execute<L: LevelCount, T: TableMemory>(
+    fn execute<L: LevelCount, T: TableMemory, P: PageTableFrameMapping + Copy>(
         &self,
         memory: &mut T,
-        located: Located,
+        located: Located<P>,
         array: &mut [u64],
     ) -> Result<Unmapped, u32> {
         let page = first_page::<L>(self.first, self.count)?;
@@ -424,17 +426,17 @@ impl<'a> Operation for UnmapFrom<'a> {
 }
 
 /// Unmaps a number of pages of a size.
-fn unmap_pages<S: PageSize, L: LevelCount, T: TableMemory>(
+fn unmap_pages<S: PageSize, L: LevelCount, T: TableMemory, P: PageTableFrameMapping + Copy>(
     memory: &mut T,
-    located: Located,
+    located: Located<P>,
     page: PageIn<S, L>,
     count: u64,
     frames: &mut [u64],
 ) -> Unmapped
-    requires valid { Valid (given.at L.LEVELS located (T.tables memory.old)) }
+    requires valid { Valid (given.at P.places L.LEVELS located (T.tables memory.old)) }
     requires there { page + count * span S.LEVEL ≤ position_count L.LEVELS }
-    ensures unmaps { ranges.UnmapsRange (given.at L.LEVELS located (T.tables memory.old)) S.LEVEL page count
-        frames.old (given.at L.LEVELS located (T.tables memory.new)) (ranges.end_status result.done count)
+    ensures unmaps { ranges.UnmapsRange (given.at P.places L.LEVELS located (T.tables memory.old)) S.LEVEL page count
+        frames.old (given.at P.places L.LEVELS located (T.tables memory.new)) (ranges.end_status result.done count)
         frames.new result.frame_count result.done }
     ensures lent { T.lent memory.new ≡ T.lent memory.old }
 {
@@ -530,10 +532,10 @@ impl<'a> Operation for UpdateFrom<'a> {
     ghost does = { λ from h array after left changed. TellsUpdates h (level_of_page_size from.first.now.size)
         (position_of h.layout.levels from.first.now.start) (bits_of from.flags) from.count after changed };
 
-    fn execute<L: LevelCount, T: TableMemory>(
+    fn execute<L: LevelCount, T: TableMemory, P: PageTableFrameMapping + Copy>(
         &self,
         memory: &mut T,
-        located: Located,
+        located: Located<P>,
         _array: &mut [u64],
     ) -> Result<Option<u64>, u32> {
         let page = first_page::<L>(self.first, self.count)?;
@@ -546,17 +548,17 @@ impl<'a> Operation for UpdateFrom<'a> {
 }
 
 /// Sets the flags of a number of pages of a size, and returns how many were changed, or `None` if the flags have address bits.
-fn update_pages<S: PageSize, L: LevelCount, T: TableMemory>(
+fn update_pages<S: PageSize, L: LevelCount, T: TableMemory, P: PageTableFrameMapping + Copy>(
     memory: &mut T,
-    located: Located,
+    located: Located<P>,
     page: PageIn<S, L>,
     count: u64,
     flags: PageTableFlags,
 ) -> Option<u64>
-    requires valid { Valid (given.at L.LEVELS located (T.tables memory.old)) }
+    requires valid { Valid (given.at P.places L.LEVELS located (T.tables memory.old)) }
     requires there { page + count * span S.LEVEL ≤ position_count L.LEVELS }
-    ensures updates { maps.TellsUpdates (given.at L.LEVELS located (T.tables memory.old)) S.LEVEL page
-        (bits_of flags) count (given.at L.LEVELS located (T.tables memory.new)) result }
+    ensures updates { maps.TellsUpdates (given.at P.places L.LEVELS located (T.tables memory.old)) S.LEVEL page
+        (bits_of flags) count (given.at P.places L.LEVELS located (T.tables memory.new)) result }
     ensures lent { T.lent memory.new ≡ T.lent memory.old }
 {
     if flags.has_address_bits() {

@@ -9,7 +9,9 @@ use crate::operation::{Operation, enter};
 use crate::status;
 use bitflags::Flags;
 use x86_64::structures::paging::PageTable;
-use x86_64::structures::paging::mapper::{MappedPageTableIn, TranslateResult};
+use x86_64::structures::paging::mapper::{
+    MappedPageTableIn, PageTableFrameMapping, TranslateResult,
+};
 use x86_64::{LevelCount, TableMemory, page_walk};
 use x86_64_mappers::calls;
 
@@ -100,10 +102,10 @@ impl Operation for PageWalk {
     ghost does = { λ walk h array after left found. (after.memory ≡ h.memory)
         × (found ≡ walked_to h walk.address) };
 
-    fn execute<L: LevelCount, T: TableMemory>(
+    fn execute<L: LevelCount, T: TableMemory, P: PageTableFrameMapping + Copy>(
         &self,
         memory: &mut T,
-        located: Located,
+        located: Located<P>,
         _array: &mut [u64],
     ) -> Result<Option<Walked>, u32> {
         let address = address_of::<L>(self.address)?;
@@ -170,10 +172,10 @@ impl Operation for Translate {
     ghost does = { λ translate h array after left found.
         (after.memory ≡ h.memory) × (found ≡ translated_at h translate.address) };
 
-    fn execute<L: LevelCount, T: TableMemory>(
+    fn execute<L: LevelCount, T: TableMemory, P: PageTableFrameMapping + Copy>(
         &self,
         memory: &mut T,
-        located: Located,
+        located: Located<P>,
         _array: &mut [u64],
     ) -> Result<Option<Translation>, u32> {
         let address = address_of::<L>(self.address)?;

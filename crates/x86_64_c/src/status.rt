@@ -73,6 +73,9 @@ pub const BAD_ACCESS: u32 = 22;
 /// The shared indices are out of order, or one is above 511.
 pub const BAD_INDICES: u32 = 23;
 
+/// The segments are out of order, overlap, have a place twice, or reach 2^64.
+pub const BAD_SEGMENTS: u32 = 24;
+
 /// Returns the status of a refused change of flags.
 pub fn flags_status(error: FlagUpdateError) -> u32
     ensures { result ≡ calls.refusal_status (refusal_of_update error) }

@@ -8,6 +8,7 @@ use crate::arguments::{Hierarchy, Located};
 use crate::operation::{Operation, enter};
 use crate::status;
 use x86_64::structures::paging::PageTable;
+use x86_64::structures::paging::mapper::PageTableFrameMapping;
 use x86_64::{LevelCount, TableMemory, is_valid_by_marks, pool_fits_by_marks};
 
 /// Returns the status of a test.
@@ -66,10 +67,10 @@ impl Operation for IsValid {
 
     ghost does = { λ _ h array after left passed. (after.memory ≡ h.memory) × (IsTrue passed ↔ Valid h) };
 
-    fn execute<L: LevelCount, T: TableMemory>(
+    fn execute<L: LevelCount, T: TableMemory, P: PageTableFrameMapping + Copy>(
         &self,
         memory: &mut T,
-        located: Located,
+        located: Located<P>,
         array: &mut [bool],
     ) -> Result<bool, u32> {
         let count = memory.len();
@@ -134,10 +135,10 @@ impl<'a> Operation for PoolFits<'a> {
     ghost does = { λ test h array after left passed.
         (after.memory ≡ h.memory) × (IsTrue passed ↔ FitsArray h test.pool.now test.free_count) };
 
-    fn execute<L: LevelCount, T: TableMemory>(
+    fn execute<L: LevelCount, T: TableMemory, P: PageTableFrameMapping + Copy>(
         &self,
         memory: &mut T,
-        located: Located,
+        located: Located<P>,
         array: &mut [bool],
     ) -> Result<bool, u32> {
         let count = memory.len();

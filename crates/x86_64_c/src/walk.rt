@@ -10,6 +10,7 @@ use crate::arguments::{Hierarchy, Located, address_of};
 use crate::operation::{Operation, enter};
 use crate::reads::tell;
 use x86_64::structures::paging::PageTable;
+use x86_64::structures::paging::mapper::PageTableFrameMapping;
 use x86_64::{LevelCount, TableMemory, VirtAddrIn};
 use x86_64_mappings::{EntriesRead, MOST_LEVELS, WalkEnd, WalkEntry, read_entries, span};
 use x86_64_tables::page_table::Rights;
@@ -91,10 +92,10 @@ impl Operation for Walk {
     ghost does = { λ walk h array after left found. (after.memory ≡ h.memory)
         × (found ≡ result_walked h walk.address) };
 
-    fn execute<L: LevelCount, T: TableMemory>(
+    fn execute<L: LevelCount, T: TableMemory, P: PageTableFrameMapping + Copy>(
         &self,
         memory: &mut T,
-        located: Located,
+        located: Located<P>,
         _array: &mut [u64],
     ) -> Result<Option<WalkResult>, u32> {
         let address = address_of::<L>(self.address)?;
@@ -103,12 +104,12 @@ impl Operation for Walk {
 }
 
 /// Walks to an address, and returns where the walk arrives.
-fn walk_at<L: LevelCount, T: TableMemory>(
+fn walk_at<L: LevelCount, T: TableMemory, P: PageTableFrameMapping + Copy>(
     memory: &T,
-    located: Located,
+    located: Located<P>,
     address: VirtAddrIn<L>,
 ) -> Option<WalkResult>
-    ensures { result ≡ walks.walked_at (given.at L.LEVELS located (T.tables memory.now)) address }
+    ensures { result ≡ walks.walked_at (given.at P.places L.LEVELS located (T.tables memory.now)) address }
 {
     let position = address.position();
     let Located { root, mapping } = located;

@@ -9,6 +9,7 @@ ghost use Rattle.x86_64_model.specs.Live.{by_masks};
 use crate::arguments::{Hierarchy, Located, page_at};
 use crate::operation::{Operation, enter};
 use crate::status;
+use x86_64::structures::paging::mapper::PageTableFrameMapping;
 use x86_64::structures::paging::{PageIn, PageTable, Size4KiB};
 use x86_64::{LevelCount, TableMemory};
 use x86_64_live::{
@@ -204,10 +205,10 @@ impl Operation for PageList {
         × ((end : RangeEnd (Unit {0})) × TellsPages h used new.first new.last array left end
         ended.status ended.count ended.next) };
 
-    fn execute<L: LevelCount, T: TableMemory>(
+    fn execute<L: LevelCount, T: TableMemory, P: PageTableFrameMapping + Copy>(
         &self,
         memory: &mut T,
-        located: Located,
+        located: Located<P>,
         array: &mut [PageWord],
     ) -> Result<Ended, u32> {
         let range = range_of::<L>(self.first, self.last)?;
@@ -241,10 +242,10 @@ impl Operation for PageTake {
         × TellsPages h used new.first new.last array left end ended.status ended.count ended.next
         × ExchangesRange h used (λ _. 0) new.first new.last end after.memory };
 
-    fn execute<L: LevelCount, T: TableMemory>(
+    fn execute<L: LevelCount, T: TableMemory, P: PageTableFrameMapping + Copy>(
         &self,
         memory: &mut T,
-        located: Located,
+        located: Located<P>,
         array: &mut [PageWord],
     ) -> Result<Ended, u32> {
         let range = range_of::<L>(self.first, self.last)?;
@@ -281,10 +282,10 @@ impl Operation for FlagChange {
         × TellsPages h present new.first new.last array left end ended.status ended.count ended.next
         × ExchangesRange h present (by_masks new.keep new.set) new.first new.last end after.memory };
 
-    fn execute<L: LevelCount, T: TableMemory>(
+    fn execute<L: LevelCount, T: TableMemory, P: PageTableFrameMapping + Copy>(
         &self,
         memory: &mut T,
-        located: Located,
+        located: Located<P>,
         array: &mut [PageWord],
     ) -> Result<Ended, u32> {
         let range = range_of::<L>(self.first, self.last)?;

@@ -12,7 +12,8 @@ take-out-requires-clause-fits g c =
 
 pub take-out-requires-clause-root : goal.take-out-requires-clause-root
 take-out-requires-clause-root g c = λ gives.
-    serves_root c.once_more.result.frames _ _ _ c.new-frames.ensures.serves g.L.LevelCount.LEVELS c.args.located (g.T.TableMemory.tables c.args.memory.now) (stacked c.args.array.now c.args.free_count)
+    serves_root c.once_more.result.frames _ _ _ c.new-frames.ensures.serves g.L.LevelCount.LEVELS (g.P.PageTableFrameMapping.places c.args.located.mapping)
+    (g.met.P.PageTableFrameMapping.is_mapping c.args.located.mapping) c.args.located.root (g.T.TableMemory.tables c.args.memory.now) (stacked c.args.array.now c.args.free_count)
     (rw c.once_more.ensures c.requires.fits.1) (rw c.once_more.ensures (c.requires.root gives))
 
 pub take-out-requires-clause-count : goal.take-out-requires-clause-count
@@ -24,8 +25,8 @@ returns-clause-does g c =
     let serves = c.take-out.ensures.serves ∙ c.new-frames.ensures.serves in
     let array = same_array c.once_more.result.frames after.own.frames _ _ after.entries.ghost_name after.count.ghost_name serves in
     let count = same_count c.once_more.result.frames after.own.frames _ _ after.entries.ghost_name after.count.ghost_name serves in
-    let before = at g.L.LevelCount.LEVELS c.args.located (g.T.TableMemory.tables c.args.memory.now) in
-    let left = at g.L.LevelCount.LEVELS c.args.located (g.T.TableMemory.tables c.take-out.new.memory) in
+    let before = at g.P.PageTableFrameMapping.places g.L.LevelCount.LEVELS c.args.located (g.T.TableMemory.tables c.args.memory.now) in
+    let left = at g.P.PageTableFrameMapping.places g.L.LevelCount.LEVELS c.args.located (g.T.TableMemory.tables c.take-out.new.memory) in
     record {
       does = rw (sym c.once_more.ensures) (lent_step (λ pool rest. g.S.PoolStep.does c.args.step.now before pool left rest c.take-out.result) c.once_more.result.frames _ _ c.take-out.ensures.serves
           (λ free rest. g.met.S.PoolStep.own_frames c.args.step.now c.once_more.result.frames _ _ _ c.new-frames.ensures.serves before left free rest c.take-out.result)

@@ -3,7 +3,6 @@ use Rattle.std.proofs.Math.Nat.{mul-le-mul_right}
 use Rattle.x86_64_model.specs.Position.{span}
 use Rattle.x86_64_mappers.specs.Layouts.{direct_at}
 use Rattle.x86_64_mappers.specs.RangeChanges.{unmaps, frames_done}
-use Rattle.x86_64_c.specs.Arguments.{places_of}
 use Rattle.x86_64_c.specs.declared.ranges.FrameArray.{FrameArray}
 use Rattle.x86_64_c.proofs.EntryChanges.{plain, valid_over}
 use Rattle.x86_64_c.proofs.FrameArrays.{takes_all}
@@ -13,7 +12,7 @@ use Rattle.x86_64_c.proofs.ranges.unmap_pages.Goals as goal
 pub returns-clause-unmaps : goal.returns-clause-unmaps
 returns-clause-unmaps g c =
     let L = g.L.LevelCount.LEVELS in
-    let layout = direct_at L (places_of c.args.located) c.args.located.root in
+    let layout = direct_at L (g.P.PageTableFrameMapping.places c.args.located.mapping) c.args.located.root in
     let most = c.min-most.result in
     let does = c.unmap_range.ensures.does in
     let few = few_frames _ _ _ g.S.PageSize.LEVEL c.args.page most does.0 does.1 in

@@ -2,7 +2,6 @@ use Rattle.std.proofs.Common.{not, true≢false, refl, sym, ap, ◌∙◌, rules
 use Rattle.x86_64_mappers.specs.Layouts.{direct_at}
 use Rattle.x86_64_mappers.specs.RangeChanges.{updates}
 use Rattle.x86_64_tables.specs.PageTableFlags.{bits_of}
-use Rattle.x86_64_c.specs.Arguments.{places_of}
 use Rattle.x86_64_c.proofs.EntryChanges.{plain, valid_over}
 use Rattle.x86_64_c.proofs.RangesSeen.{changes_each, range_is, updates_are}
 use Rattle.x86_64_c.proofs.ranges.update_pages.Goals as goal
@@ -10,7 +9,7 @@ use Rattle.x86_64_c.proofs.ranges.update_pages.Goals as goal
 pub returns-clause-updates : goal.returns-clause-updates
 returns-clause-updates g c =
     let L = g.L.LevelCount.LEVELS in
-    let layout = direct_at L (places_of c.args.located) c.args.located.root in
+    let layout = direct_at L (g.P.PageTableFrameMapping.places c.args.located.mapping) c.args.located.root in
     let given = bits_of c.args.flags in
     let does = c.update_flags_range-number.ensures.does in (
       λ refused. let fits = c.has_address_bits.ensures in search rules,

@@ -4,14 +4,13 @@ use Rattle.x86_64_model.specs.Path.{path_at}
 use Rattle.x86_64_mappers.specs.Layouts.{direct_at}
 use Rattle.x86_64_tables.specs.MapperAnswers.{flags_answer}
 use Rattle.x86_64_tables.specs.PageTableFlags.{bits_of}
-use Rattle.x86_64_c.specs.Arguments.{places_of}
 use Rattle.x86_64_c.proofs.EntryChanges.{changes, plain, is_page}
 use Rattle.x86_64_c.proofs.changes.FlagsOfTableEntryChange.make.Goals as goal
 
 pub returns-clause-makes : goal.returns-clause-makes
 returns-clause-makes g c =
     let L = g.L.LevelCount.LEVELS in
-    let layout = direct_at L (places_of c.args.located) c.args.located.root in
+    let layout = direct_at L (g.P.PageTableFrameMapping.places c.args.located.mapping) c.args.located.root in
     let page = is_page L g.L.LevelCount.at_least_four g.S.PageSize.LEVEL g.S.PageSize.low g.S.PageSize.high c.args.page in (
       λ refused. let may = c.if-not-may_set.ensures in absurd (search rules),
       λ may. (

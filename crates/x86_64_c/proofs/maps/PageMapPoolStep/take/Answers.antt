@@ -4,8 +4,6 @@ use Rattle.x86_64_model.specs.PageCalls.{page_call}
 use Rattle.x86_64_model.proofs.Lemmas.Machines.Giving.{giving_from}
 use Rattle.x86_64_mappers.specs.Layouts.{direct_at}
 use Rattle.x86_64_tables.specs.PageTableFlags.{bits_of}
-use Rattle.x86_64_tables.specs.Shifted.{shifted_is_mapping}
-use Rattle.x86_64_c.specs.Arguments.{places_of}
 use Rattle.x86_64_c.proofs.EntryChanges.{plain, supply_over}
 use Rattle.x86_64_c.proofs.OrNothing.{if_ok, if_refused, mapped_or_nothing, same_serves}
 use Rattle.x86_64_c.proofs.PoolSteps.{refused, seen_allows}
@@ -16,7 +14,7 @@ may_map-requires g c = c.requires.fits.valid
 
 pub map_or_nothing-mapped-requires-clause-may : goal.map_or_nothing-mapped-requires-clause-may
 map_or_nothing-mapped-requires-clause-may g c =
-    let l = direct_at g.L.LevelCount.LEVELS (places_of c.args.located) c.args.located.root in
+    let l = direct_at g.L.LevelCount.LEVELS (g.P.PageTableFrameMapping.places c.args.located.mapping) c.args.located.root in
     record {
       fits = supply_over l l _ _ refl c.may_map.ensures.kept _ _ c.requires.fits;
       allowed = seen_allows l l _ _ refl c.may_map.ensures.kept (λ k. page_call k g.S.PageSize.LEVEL (call_for c.args.self.now)) ∙ sym c.may_map.ensures.answer ∙ c.if-not-may_map.false;
@@ -24,7 +22,7 @@ map_or_nothing-mapped-requires-clause-may g c =
 
 pub returns-then-not-may_map-clause-does : goal.returns-then-not-may_map-clause-does
 returns-then-not-may_map-clause-does g c =
-    let l = direct_at g.L.LevelCount.LEVELS (places_of c.args.located) c.args.located.root in
+    let l = direct_at g.L.LevelCount.LEVELS (g.P.PageTableFrameMapping.places c.args.located.mapping) c.args.located.root in
     let map = c.args.self.now in
     if_ok _ _ _ _ _ _
     (refused l _ (g.T.TableMemory.tables c.args.memory.now) map.page map.frame (bits_of map.flags) (bits_of map.parent_flags) c.requires.fits g.S.PageSize.LEVEL g.S.PageSize.low g.S.PageSize.high
@@ -32,9 +30,9 @@ returns-then-not-may_map-clause-does g c =
 
 pub returns-clause-does : goal.returns-clause-does
 returns-clause-does g c =
-    let l = direct_at g.L.LevelCount.LEVELS (places_of c.args.located) c.args.located.root in
+    let l = direct_at g.L.LevelCount.LEVELS (g.P.PageTableFrameMapping.places c.args.located.mapping) c.args.located.root in
     mapped_or_nothing l _ (g.T.TableMemory.tables c.args.memory.now) c.args.self.now _ _ _ g.L.LevelCount.at_least_four plain (giving_from _ g.met.F.FrameDeallocator.take_back_rearranges)
-    (shifted_is_mapping c.args.located.mapping.first) c.requires.fits _ c.map_or_nothing-mapped.result c.map_or_nothing-mapped.ensures.page c.mapped_status.ensures
+    (g.met.P.PageTableFrameMapping.is_mapping c.args.located.mapping) c.requires.fits _ c.map_or_nothing-mapped.result c.map_or_nothing-mapped.ensures.page c.mapped_status.ensures
     g.S.PageSize.LEVEL g.S.PageSize.low g.S.PageSize.high c.may_map.ensures.kept c.map_or_nothing-mapped.ensures.maps (sym c.may_map.ensures.answer ∙ c.if-not-may_map.false)
 
 pub returns-clause-unchanged : goal.returns-clause-unchanged

@@ -3,16 +3,14 @@ use Rattle.x86_64_model.specs.PageCalls.{page_call}
 use Rattle.x86_64_model.proofs.Lemmas.Machines.Giving.{giving_from}
 use Rattle.x86_64_mappers.specs.Layouts.{direct_at}
 use Rattle.x86_64_tables.specs.PageTableFlags.{bits_of}
-use Rattle.x86_64_tables.specs.Shifted.{shifted_is_mapping}
 use Rattle.x86_64.specs.Asked.{MapToWithTableFlags}
-use Rattle.x86_64_c.specs.Arguments.{places_of}
 use Rattle.x86_64_c.proofs.EntryChanges.{plain, supply_over, valid_over}
 use Rattle.x86_64_c.proofs.PoolSteps.{mapped, map_did, refused, seen_allows}
 use Rattle.x86_64_c.proofs.pool_calls.MapToPoolStep.take.Goals as goal
 
 pub returns-then-not-map_allowed-clause-does : goal.returns-then-not-map_allowed-clause-does
 returns-then-not-map_allowed-clause-does g c =
-    let l = direct_at g.L.LevelCount.LEVELS (places_of c.args.located) c.args.located.root in
+    let l = direct_at g.L.LevelCount.LEVELS (g.P.PageTableFrameMapping.places c.args.located.mapping) c.args.located.root in
     let level = g.S.PageSize.LEVEL in
     let map = MapToWithTableFlags c.args.self.now.page c.args.self.now.frame (bits_of c.args.self.now.flags) (bits_of c.args.self.now.parent_flags) in
     refused l _ (g.T.TableMemory.tables c.args.memory.now) c.args.self.now.page c.args.self.now.frame (bits_of c.args.self.now.flags) (bits_of c.args.self.now.parent_flags) c.requires.fits level g.S.PageSize.low g.S.PageSize.high
@@ -20,11 +18,11 @@ returns-then-not-map_allowed-clause-does g c =
 
 pub returns-clause-does : goal.returns-clause-does
 returns-clause-does g c =
-    let l = direct_at g.L.LevelCount.LEVELS (places_of c.args.located) c.args.located.root in
+    let l = direct_at g.L.LevelCount.LEVELS (g.P.PageTableFrameMapping.places c.args.located.mapping) c.args.located.root in
     let level = g.S.PageSize.LEVEL in
     let map = MapToWithTableFlags c.args.self.now.page c.args.self.now.frame (bits_of c.args.self.now.flags) (bits_of c.args.self.now.parent_flags) in
     mapped l _ (g.T.TableMemory.tables c.args.memory.now) c.args.self.now.page c.args.self.now.frame (bits_of c.args.self.now.flags) (bits_of c.args.self.now.parent_flags) _ c.map_to_with_table_flags-mapped.ensures.does.serves _ _ g.L.LevelCount.at_least_four plain
-    (giving_from _ g.met.F.FrameDeallocator.take_back_rearranges) (shifted_is_mapping c.args.located.mapping.first) c.requires.fits c.map_to_with_table_flags-mapped.result c.map_to_with_table_flags-mapped.ensures.page c.mapped_status.ensures
+    (giving_from _ g.met.F.FrameDeallocator.take_back_rearranges) (g.met.P.PageTableFrameMapping.is_mapping c.args.located.mapping) c.requires.fits c.map_to_with_table_flags-mapped.result c.map_to_with_table_flags-mapped.ensures.page c.mapped_status.ensures
     level g.S.PageSize.low g.S.PageSize.high
     (map_did _ _ l _ _ c.new-mapper.ensures.layout c.new-mapper.ensures.memory (search rules) _ (λ k. page_call k level map) _ _ c.map_to_with_table_flags-mapped.ensures.does.map)
     (sym (seen_allows _ l _ _ c.new-mapper.ensures.layout c.new-mapper.ensures.memory (λ k. page_call k level map)) ∙ sym c.map_allowed.ensures ∙ c.if-not-map_allowed.false)

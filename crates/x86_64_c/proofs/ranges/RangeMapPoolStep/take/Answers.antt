@@ -1,6 +1,5 @@
 use Rattle.std.proofs.Common.{true≢false, sym, ◌∙◌, refl, rules}
 use Rattle.x86_64_mappers.specs.Layouts.{direct_at}
-use Rattle.x86_64_c.specs.Arguments.{places_of}
 use Rattle.x86_64_c.specs.Ranges.{range_of_request}
 use Rattle.x86_64_c.proofs.EntryChanges.{plain, supply_over}
 use Rattle.x86_64_c.proofs.RangesSeen.{mapped, maps_are, range_over, range_seen}
@@ -15,7 +14,7 @@ returns-clause-does g c =
           let may = c.map_range_allowed.ensures.0 c.if-not-map_range_allowed.false in
           absurd (refused (may.0, range_seen _ _ _ c.new-mapper.ensures.layout c.new-mapper.ensures.memory _ _ may.1)),
       λ may.
-          mapped _ _ (direct_at L (places_of c.args.located) c.args.located.root) (g.T.TableMemory.tables c.args.memory.now) _ c.new-mapper.ensures.layout c.new-mapper.ensures.memory (search rules) plain
+          mapped _ _ (direct_at L (g.P.PageTableFrameMapping.places c.args.located.mapping) c.args.located.root) (g.T.TableMemory.tables c.args.memory.now) _ c.new-mapper.ensures.layout c.new-mapper.ensures.memory (search rules) plain
           _ _ range
           (maps_are L g.S.PageSize.LEVEL g.S.PageSize.low g.S.PageSize.high g.L.LevelCount.at_least_four range refl) c.requires.fits
           map.page map.count c.map_range-mapped.result c.map_range-mapped.ensures.maps.maps c.map_range-mapped.ensures.pages

@@ -9,7 +9,7 @@ use Rattle.x86_64_c.proofs.word_ranges.PageTakeOperation.execute.Goals as goal
 
 pub returns-clause-does : goal.returns-clause-does
 returns-clause-does g c =
-    let L = g.L.LevelCount.LEVELS in let h = at L c.args.located (g.T.TableMemory.tables c.args.memory.now) in let M = paths h in
+    let L = g.L.LevelCount.LEVELS in let h = at g.P.PageTableFrameMapping.places L c.args.located (g.T.TableMemory.tables c.args.memory.now) in let M = paths h in
     let told = c.of.ensures in let seen = c.take_range-seen.result in let range = c.in_ok-range.ensures in
     let sees = seen_alone L used M c.in_ok-range.range.start c.in_ok-range.range.end c.args.array.now c.take_range-seen.new.pages seen.count seen.end c.take_range-seen.ensures.sees in
     let tells : TellsPages h used c.args.self.now.first c.args.self.now.last c.args.array.now c.take_range-seen.new.pages (end_alone seen.end) c.of.result.status c.of.result.count c.of.result.next = record {
