@@ -7,7 +7,7 @@ use crate::arguments::{Hierarchy, Located, page_at};
 use crate::operation::{Operation, enter};
 use crate::pool::{PoolStep, Stepped, with_pool};
 use crate::status;
-use x86_64::structures::paging::mapper::MappedPageTableIn;
+use x86_64::structures::paging::mapper::{MappedPageTableIn, PageTableFrameMapping};
 use x86_64::structures::paging::{PageIn, PageTable, Size4KiB};
 use x86_64::{FrameStore, LevelCount, OwnFrames, TableMemory};
 use x86_64_mappers::calls as mapper_calls;
@@ -80,10 +80,10 @@ impl Operation for CleanUpBelowRoot {
         CleansBelowRoot h pool (position_of h.layout.levels new.first_page)
         (position_of h.layout.levels new.last_page + 0xfff) after rest cleaned.out) };
 
-    fn execute<L: LevelCount, T: TableMemory>(
+    fn execute<L: LevelCount, T: TableMemory, P: PageTableFrameMapping + Copy>(
         &self,
         memory: &mut T,
-        located: Located,
+        located: Located<P>,
         array: &mut [u64],
     ) -> Result<Stepped<u32>, u32> {
         if array.len() < self.free_count {
@@ -118,10 +118,10 @@ impl<L: LevelCount> PoolStep<L> for PagesBelowRoot<L> {
     ghost does = { λ pages h pool after rest status.
         CleansBelowRoot h pool pages.first (pages.last + 0xfff) after rest status };
 
-    fn take<T: TableMemory, F: FrameStore>(
+    fn take<T: TableMemory, P: PageTableFrameMapping + Copy, F: FrameStore>(
         &self,
         memory: &mut T,
-        located: Located,
+        located: Located<P>,
         frames: &mut F,
         _free_count: usize,
     ) -> u32 {
