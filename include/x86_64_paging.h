@@ -1281,7 +1281,9 @@ uint32_t x64_unmap(const x64_hierarchy *hierarchy, x64_table *tables, size_t tab
  * *frame_count. No table is freed.
  *
  * With X64_MORE *done is `capacity`, and a call with first->start + *done * first->size and
- * count - *done continues after the last page that was looked at.
+ * count - *done continues after the last page that was looked at. So a call passes over at most
+ * `capacity` pages of a hole. For ranges with holes take x64_take_range, which passes over a whole
+ * hole in one call, and returns the words of pages of all sizes.
  *
  * Condition: the hierarchy is valid (x64_is_valid).
  *
