@@ -318,9 +318,9 @@
  * WHAT IS PROVED, AND WHAT ISN'T
  *
  * Proved is what the functions return and write that this file only declares, as their descriptions
- * say it: the raw calls, x64_flush_after and x64_flush_between. The contract of the function of the
- * same name in crates/x86_64_c/src carries it. Those of x64_list_range, x64_take_range and
- * x64_change_range say it by pages_between and ExchangesPages, which
+ * say it: the raw calls, those on flushes and those on parts of larger pages. The contract of the
+ * function of the same name in crates/x86_64_c/src carries it. Those of x64_list_range,
+ * x64_take_range and x64_change_range say it by pages_between and ExchangesPages, which
  * crates/x86_64_live/specs/PageRanges.antt defines. The laws named above are theorems of these
  * names.
  *
@@ -363,9 +363,9 @@ extern "C" {
 /*
  * STATUSES
  *
- * Every call but x64_flush_after and x64_flush_between returns one of these. It writes its out
- * parameters only if it returns X64_OK, unless its description says otherwise. X64_HAS_TABLE,
- * X64_CHANGED and X64_SHARED_ENTRY are returned by inline functions alone.
+ * Every call but x64_flush_after, x64_flush_between, x64_are_parts and x64_joined_word returns one
+ * of these. It writes its out parameters only if it returns X64_OK, unless its description says
+ * otherwise. X64_CHANGED and X64_SHARED_ENTRY are returned by inline functions alone.
  *
  * X64_BAD_LEVELS and the statuses after it say that an argument is wrong; nothing has changed.
  * Arguments are checked before anything else: first the levels, the segments and the root of the
@@ -949,6 +949,65 @@ X64_NODISCARD
 uint32_t x64_flush_between(uint64_t level, uint64_t old, uint64_t word);
 
 /*
+ * Parts of larger pages
+ *
+ * A page of 2 MiB or 1 GiB has 512 parts: the pages of 4 KiB or 2 MiB that map the same frames as
+ * the same kind of memory, with the same rights. x64_space_split and x64_space_join
+ * (x86_64_paging_live.h) put a table of the parts in the place of the page, and the page in the
+ * place of the table, by one locked instruction. These functions write and compare words for them.
+ * `level` is that of the page's entry, 2 or 3, and `word` is the entry's word. The definitions are
+ * in crates/x86_64_live/specs/Parts.antt.
+ *
+ * Proved of the model: if the words of a table are parts (AreParts), the page and the table may
+ * take each other's place, and all walks arrive where they did with the same rights
+ * (pages_may_be_split, pages_may_be_joined in crates/x86_64_model). Proved of these functions: that
+ * the words are parts.
+ */
+
+/*
+ * Returns whether the page that has this word can be split: X64_OK or one of these:
+ *   X64_BAD_LEVELS              if the level isn't 2 or 3
+ *   X64_PAGE_NOT_MAPPED         if the word is 0
+ *   X64_HAS_TABLE               if it names a table: it lacks X64_HUGE_PAGE
+ *   X64_INVALID_FRAME_ADDRESS   if its address isn't a multiple of the page's size, but for bit 12,
+ *                               which is PAT. Such bits are reserved
+ */
+X64_NODISCARD
+uint32_t x64_split_status(uint64_t level, uint64_t word);
+
+/*
+ * Writes the words of the parts of a page into a table that nobody uses: with all its flags, its
+ * marks and its PAT (part_of). They are parts (AreParts) below any entry that has X64_WRITABLE and
+ * X64_USER_ACCESSIBLE and lacks X64_NO_EXECUTE.
+ *
+ * Returns what x64_split_status returns. Unless it is X64_OK, the table stays as it was.
+ */
+X64_NODISCARD
+uint32_t x64_write_parts(uint64_t level, uint64_t word, x64_table *table);
+
+/*
+ * Returns whether the words of a table are the parts (AreParts) of a page with this word, below the
+ * word of the entry that names the table: they map the same frames and grant, with that entry, what
+ * the page grants. They also have the same kind of memory (MapsParts): X64_PRESENT, X64_GLOBAL,
+ * caching with PAT, and the protection key. Returns false if x64_split_status refuses the page.
+ *
+ * It looks neither at X64_ACCESSED and X64_DIRTY nor at the bits 9 to 11 and 52 to 58: its contract
+ * says the same of tables that differ in these alone. So it may run while processors mark the
+ * parts. Trusted is that the compiler reads a word whole, once or twice.
+ */
+X64_NODISCARD
+bool x64_are_parts(uint64_t level, uint64_t word, uint64_t entry, const x64_table *table);
+
+/*
+ * Returns the word of a page that takes the place of the parts in a table: this word with
+ * X64_ACCESSED, and with X64_DIRTY if the page is writable or a part has X64_DIRTY. A writable page
+ * counts as dirty, since its parts may be marked until it takes their place. Ring 0 with CR0.WP
+ * clear marks parts that aren't writable, too.
+ */
+X64_NODISCARD
+uint64_t x64_joined_word(uint64_t word, const x64_table *table);
+
+/*
  * RAW CALLS
  *
  * The functions of the library. They take a hierarchy, which is a space without its tables, and the
@@ -1277,7 +1336,9 @@ uint32_t x64_unmap(const x64_hierarchy *hierarchy, x64_table *tables, size_t tab
  * *frame_count. No table is freed.
  *
  * With X64_MORE *done is `capacity`, and a call with first->start + *done * first->size and
- * count - *done continues after the last page that was looked at.
+ * count - *done continues after the last page that was looked at. So a call passes over at most
+ * `capacity` pages of a hole. For ranges with holes take x64_take_range, which passes over a whole
+ * hole in one call, and returns the words of pages of all sizes.
  *
  * Condition: the hierarchy is valid (x64_is_valid).
  *

@@ -85,13 +85,6 @@ extern "C" {
  * and no part of the address. */
 #define X64_ADDRESS UINT64_C(0x000ffffffffff000)
 
-/* The bits of an entry that say where it leads and which kind of memory this is: the address, or
- * PAT among it, WRITE_THROUGH, NO_CACHE, bit 7 (PAT or HUGE_PAGE), GLOBAL, and the protection
- * key. */
-#define X64_KIND                                                                                   \
-    (X64_ADDRESS | X64_WRITE_THROUGH | X64_NO_CACHE | X64_HUGE_PAGE | X64_GLOBAL |                 \
-     UINT64_C(0x7800000000000000))
-
 /* Returns whether a status says that a hierarchy is wrong: its levels, its segments or its root. */
 static inline bool x64_is_bad_hierarchy(uint32_t status) {
     return status == X64_BAD_LEVELS || status == X64_BAD_SEGMENTS || status == X64_BAD_ROOT;
@@ -447,47 +440,6 @@ static inline uint32_t x64_space_take_range_live(const x64_space *space, uint64_
  * LARGER AND SMALLER PAGES
  */
 
-/* Returns the word that maps the j-th of the 512 parts of a page of level 2 or 3, which has this
- * word: with its flags, marks and PAT. Without PAT these are part_of_2mib and part_of_1gib in
- * crates/x86_64_model/specs/Laws/Splits.antt; part_of_2mib has PAT, too. */
-static inline uint64_t x64_part_of(uint64_t level, uint64_t word, uint64_t j) {
-    uint64_t pat = word & 0x1000, start = word & X64_ADDRESS & ~(x64_span_of(level) - 1);
-    uint64_t flags = level == 2 ? (word & ~(X64_ADDRESS | X64_HUGE_PAGE)) | pat >> 5
-                                : (word & ~X64_ADDRESS) | pat;
-    return flags | (start + j * x64_span_of(level - 1));
-}
-
-/* Returns whether the address in the word of a page of level 2 or 3 is a multiple of the page's
- * size. The bits below are reserved, but for PAT. */
-static inline bool x64_is_aligned_page(uint64_t level, uint64_t word) {
-    return (word & X64_ADDRESS & (x64_span_of(level) - 1) & ~UINT64_C(0x1000)) == 0;
-}
-
-/* Returns whether the page of level 2 or 3 that has this word can be split, or why it can't. */
-static inline uint32_t x64_split_status(uint64_t level, uint64_t word) {
-    if (word == 0)
-        return X64_PAGE_NOT_MAPPED;
-    if (x64_names_table(level, word))
-        return X64_HAS_TABLE;
-    return x64_is_aligned_page(level, word) ? X64_OK : X64_INVALID_FRAME_ADDRESS;
-}
-
-/* Returns whether these 512 words, below an entry that names their table, map the parts of a page
- * of a level that has this word, with X64_HUGE_PAGE, and grant what it grants, with the same kind
- * of memory. This implies AreParts in crates/x86_64_model/specs/Laws/Splits.antt, which doesn't
- * look at the kind. */
-static inline bool x64_are_parts(uint64_t level, uint64_t word, uint64_t entry,
-                                 const uint64_t *words) {
-    const uint64_t rights = X64_WRITABLE | X64_USER_ACCESSIBLE;
-    for (uint64_t j = 0; j < 512; j++) {
-        uint64_t part = __atomic_load_n(&words[j], __ATOMIC_ACQUIRE);
-        if (((part ^ x64_part_of(level, word, j)) & (X64_KIND | X64_PRESENT)) ||
-            (((part & entry) ^ word) & rights) || (((part | entry) ^ word) & X64_NO_EXECUTE))
-            return false;
-    }
-    return true;
-}
-
 /*
  * Splits a page of 2 MiB or 1 GiB: its entry names a table of 512 smaller pages with its frames,
  * rights, kind of memory and marks. The table is made in the last free frame of the pool, whose
@@ -504,8 +456,8 @@ static inline bool x64_are_parts(uint64_t level, uint64_t word, uint64_t entry,
  * the parts.
  *
  * Proved of the model: that the pool fits again, and that walks arrive where they did with the same
- * rights (pages_may_be_split), if the words are parts; and that these words are (pages_have_parts),
- * but for pages of 1 GiB with PAT, bit 12. Tested: that, marks, and that this is what happens.
+ * rights (pages_may_be_split), if the words are parts. Proved of x64_write_parts: that these words
+ * are, with the page's flags and marks. Tested: that this is what happens.
  *
  * Condition: that of x64_space_map. Returns X64_OK or one of these:
  *   X64_PAGE_NOT_MAPPED          if the entry is 0, or one above it lacks X64_PRESENT
@@ -534,13 +486,14 @@ static inline uint32_t x64_space_split(const x64_space *space, x64_pool *pool, u
         return X64_FRAME_ALLOCATION_FAILED;
     const uint64_t frame = pool->frames[pool->free_count - 1],
                    table = frame | X64_PRESENT | X64_WRITABLE | X64_USER_ACCESSIBLE | X64_ACCESSED;
-    uint64_t *words = space->tables[x64_space_place_of(space, frame)].words;
+    x64_table *parts = &space->tables[x64_space_place_of(space, frame)];
     do {
-        status = x64_split_status(entry.level, entry.word);
-        for (uint64_t j = 0; j < 512; j++)
-            words[j] = status == X64_OK ? x64_part_of(entry.level, entry.word, j) : 0;
-        if (status != X64_OK)
+        status = x64_write_parts(entry.level, entry.word, parts);
+        if (status != X64_OK) {
+            for (size_t j = 0; j < 512; j++)
+                parts->words[j] = 0;
             return status;
+        }
     } while (!__atomic_compare_exchange_n(x64_space_word_at(space, &entry), &entry.word, table,
                                           true, __ATOMIC_SEQ_CST, __ATOMIC_ACQUIRE));
     pool->free_count--;
@@ -558,8 +511,9 @@ static inline uint32_t x64_space_split(const x64_space *space, x64_pool *pool, u
  * (X64_FLUSH_EVERYTHING), then clear the frame, and then give it to a pool.
  *
  * Proved of the model: that the pool fits with that frame, and that walks arrive where they did
- * with the same rights (pages_may_be_joined), if the words are parts (x64_are_parts). Tested:
- * marks, kinds of memory, and that this is what happens.
+ * with the same rights (pages_may_be_joined), if the words are parts. Proved of x64_are_parts: that
+ * it looks whether they are, and at the kind of memory, and not at marks, which processors set
+ * meanwhile. Tested: that this is what happens.
  *
  * Condition: that of x64_space_clean_up, with some pool. Nobody changes the words of the parts
  * meanwhile but processors that mark them.
@@ -593,14 +547,11 @@ static inline uint32_t x64_space_join(const x64_space *space, uint64_t page, uin
         return entries[count - 1].word & X64_HUGE_PAGE ? X64_PARENT_ENTRY_HUGE_PAGE
                                                        : X64_PAGE_NOT_MAPPED;
     x64_entry *entry = &entries[space->levels - level];
-    const uint64_t *words = space->tables[x64_space_place_of(space, entry[1].table)].words;
-    word |= X64_ACCESSED | (word & X64_WRITABLE ? X64_DIRTY : 0);
-    for (uint64_t j = 0; j < 512; j++)
-        word |= __atomic_load_n(&words[j], __ATOMIC_ACQUIRE) & X64_DIRTY;
+    const x64_table *parts = &space->tables[x64_space_place_of(space, entry[1].table)];
+    word = x64_joined_word(word, parts);
     do
         if (!(entry->word & X64_PRESENT) || !x64_names_table(level, entry->word) ||
-            !(word & X64_HUGE_PAGE) || !x64_is_aligned_page(level, word) ||
-            !x64_are_parts(level, word, entry->word, words))
+            !x64_are_parts(level, word, entry->word, parts))
             return X64_NOT_ALLOWED;
     while (!__atomic_compare_exchange_n(x64_space_word_at(space, entry), &entry->word, word, true,
                                         __ATOMIC_SEQ_CST, __ATOMIC_ACQUIRE));

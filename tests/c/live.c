@@ -399,9 +399,68 @@ static bool walks_stay(uint64_t page, uint64_t size, const struct walks *before)
     return memcmp(before, &after, sizeof after) == 0;
 }
 
+/* Returns the word of the j-th part of a page: with the page's flags, and PAT where a page of the part's size has it. */
+static uint64_t part_of(uint64_t level, uint64_t word, uint64_t j) {
+    uint64_t pat = word & 0x1000, flags = word & ~X64_ADDRESS;
+    uint64_t start = (word & X64_ADDRESS) / x64_span_of(level) * x64_span_of(level);
+    flags = level == 2 ? (flags & ~X64_HUGE_PAGE) | (pat ? 0x80 : 0) : flags | pat;
+    return flags | (start + j * x64_span_of(level - 1));
+}
+
+/* Writes the parts of a page into a table, and changes one of them. */
+static void try_part_words(uint64_t level, uint64_t word) {
+    const uint64_t all = X64_PRESENT | X64_WRITABLE | X64_USER_ACCESSIBLE, number = below(512);
+    static const uint64_t seen[] = {0x1, 0x2, 0x4, 0x8, 0x10, 0x80, 0x100, 0x1000, 0x40000000, UINT64_C(1) << 59, X64_NO_EXECUTE};
+    static const uint64_t unseen[] = {X64_ACCESSED, X64_DIRTY, 0x200, 0x800, UINT64_C(1) << 52, UINT64_C(1) << 58};
+    x64_table table;
+    memset(&table, 0x55, sizeof table);
+    CHECK(x64_split_status(level, word) == X64_OK && x64_write_parts(level, word, &table) == X64_OK);
+    for (uint64_t j = 0; j < 512; j++)
+        CHECK(table.words[j] == part_of(level, word, j));
+    CHECK(x64_are_parts(level, word, all, &table) && !x64_are_parts(5 - level, word, all, &table));
+    CHECK(x64_are_parts(level, word, all & ~X64_WRITABLE, &table) == !(word & X64_WRITABLE));
+    CHECK(x64_are_parts(level, word, all & ~X64_USER_ACCESSIBLE, &table) == !(word & X64_USER_ACCESSIBLE));
+    CHECK(x64_are_parts(level, word, all | X64_NO_EXECUTE, &table) == ((word & X64_NO_EXECUTE) != 0));
+    CHECK(x64_joined_word(word, &table) == (word | X64_ACCESSED | (word & X64_WRITABLE ? X64_DIRTY : 0)));
+    for (size_t k = 0; k < sizeof seen / sizeof seen[0]; k++) {
+        table.words[number] ^= seen[k];
+        CHECK(!x64_are_parts(level, word, all, &table));
+        table.words[number] ^= seen[k];
+    }
+    for (size_t k = 0; k < sizeof unseen / sizeof unseen[0]; k++)
+        table.words[number] ^= unseen[k];
+    CHECK(x64_are_parts(level, word, all, &table));
+    table.words[number] |= X64_DIRTY;
+    CHECK(x64_joined_word(word, &table) == (word | X64_ACCESSED | X64_DIRTY));
+}
+
+/* Refuses words that aren't those of pages with parts. Then the table stays. */
+static void try_no_parts(void) {
+    static const struct {
+        uint64_t level, word;
+        uint32_t status;
+    } rows[] = {
+        {1, 0x40000087, X64_BAD_LEVELS}, {4, 0x40000087, X64_BAD_LEVELS}, {0, 0, X64_BAD_LEVELS}, {2, 0, X64_PAGE_NOT_MAPPED},
+        {3, 0, X64_PAGE_NOT_MAPPED}, {2, 0x40000007, X64_HAS_TABLE}, {3, 0x200, X64_HAS_TABLE}, {2, 0x40002087, X64_INVALID_FRAME_ADDRESS},
+        {2, 0x40100087, X64_INVALID_FRAME_ADDRESS}, {3, 0x40200087, X64_INVALID_FRAME_ADDRESS}, {3, 0x60000087, X64_INVALID_FRAME_ADDRESS},
+    };
+    x64_table table, before;
+    memset(&table, 0x55, sizeof table);
+    before = table;
+    for (size_t k = 0; k < sizeof rows / sizeof rows[0]; k++) {
+        CHECK(x64_split_status(rows[k].level, rows[k].word) == rows[k].status);
+        CHECK(x64_write_parts(rows[k].level, rows[k].word, &table) == rows[k].status);
+        CHECK(memcmp(&table, &before, sizeof table) == 0 && !x64_are_parts(rows[k].level, rows[k].word, 0x7, &table));
+    }
+    try_part_words(2, 0x40001087);
+    try_part_words(3, 0x40001087);
+    try_part_words(2, 0x40200080);
+    try_part_words(3, UINT64_MAX & ~UINT64_C(0x3fffe000));
+}
+
 /* Splits one part of a page of 1 GiB again, and joins its parts, if they are present. */
 static void try_part(uint64_t page, uint64_t word, uint64_t number, const struct walks *before) {
-    uint64_t inner = page + number * X64_SIZE_2MIB, part = x64_part_of(3, word, number), frame = 0;
+    uint64_t inner = page + number * X64_SIZE_2MIB, part = part_of(3, word, number), frame = 0;
     size_t free_count = pool.free_count;
     CHECK(x64_space_split(&space, &pool, inner, X64_SIZE_2MIB) == X64_OK && fits() && walks_stay(page, X64_SIZE_1GIB, before));
     CHECK(x64_space_join(&space, page, X64_SIZE_1GIB, word, &frame) == X64_NOT_ALLOWED);
@@ -424,10 +483,11 @@ static void try_wrong_words(uint64_t page, uint64_t size, uint64_t word) {
 static void try_split(uint64_t page, uint64_t size, uint64_t word) {
     static struct walks before;
     const uint64_t level = x64_level_of(size), number = below(512), part_size = size / 512, inner = page + number * part_size;
-    const uint64_t part = x64_part_of(level, word, number), kept = X64_GLOBAL | MARKS | X64_NO_EXECUTE | UINT64_C(0x7ff0000000000e18);
+    const uint64_t part = part_of(level, word, number), kept = X64_GLOBAL | MARKS | X64_NO_EXECUTE | UINT64_C(0x7ff0000000000e18);
     uint64_t old = 0, frame = 0, late = below(4) ? 0 : X64_DIRTY;
     x64_entry entry = {0, 0, 0, 0};
     size_t free_count = pool.free_count;
+    try_part_words(level, word);
     walk_all(page, size, &before);
     CHECK(x64_space_split(&space, &pool, page, size) == X64_OK && pool.free_count == free_count - 1 && fits() && walks_stay(page, size, &before));
     CHECK(x64_space_find_page(&space, inner, part_size, &entry) == X64_OK && entry.word == part && ((part ^ word) & kept) == 0);
@@ -698,6 +758,7 @@ int main(int argc, char **argv) {
         try_proved_ranges(levels);
         try_hidden_table(levels);
         try_second_pool(levels);
+        try_no_parts();
         try_split_refusals(levels);
         try_splits(levels, operations / 100);
         try_join_below(levels);

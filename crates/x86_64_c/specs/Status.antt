@@ -54,6 +54,10 @@ no_table = 11
 abbrev pub space_in_use : ℕ
 space_in_use = 12
 
+-- The entry names a table.
+abbrev pub has_table : ℕ
+has_table = 13
+
 -- The number of levels is neither 4 nor 5, or there is no such level.
 abbrev pub bad_levels : ℕ
 bad_levels = 16

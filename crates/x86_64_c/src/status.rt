@@ -49,6 +49,9 @@ pub const NO_TABLE: u32 = 11;
 /// An entry of the root that isn't shared is used.
 pub const SPACE_IN_USE: u32 = 12;
 
+/// The entry names a table.
+pub const HAS_TABLE: u32 = 13;
+
 /// There are neither four nor five levels, or no such level of tables.
 pub const BAD_LEVELS: u32 = 16;
 

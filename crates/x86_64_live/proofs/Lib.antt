@@ -4,6 +4,7 @@ pub mod Maps
 pub mod Prepared
 pub mod PreparedThenMapped
 pub mod PageMasks
+pub mod PageParts
 pub mod PageSpots
 pub mod PagesBetween
 pub mod PagesChanged

@@ -2,9 +2,11 @@ pub mod MapsOrNothing
 pub mod PreparedMaps
 pub mod Prepares
 pub mod PageRanges
+pub mod Parts
 pub mod WouldAnswer
 pub mod private
 pub use Rattle.x86_64_model.specs.Entry
+pub use Rattle.x86_64_model.specs.Laws.Splits
 pub use Rattle.x86_64_model.specs.Layout
 pub use Rattle.x86_64_model.specs.Live
 pub use Rattle.x86_64_model.specs.Hierarchy
