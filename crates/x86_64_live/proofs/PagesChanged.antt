@@ -1,10 +1,12 @@
 -- Words of the pages of a range that change one after another, and what they leave.
-use Rattle.std.proofs.Common.{◌≡◌, ◌≢◌, ◌⊎◌, inl, inr, ⊎_elim, ◌<◌, ◌≤◌, ◌+◌, ◌-◌, ◌==◌, ◌||◌, ℕ, Bool, true, false, List, [], ◌∷◌, ◌++◌, length, map, drop, refl, sym, ap, ◌∙◌, subst, arith, eqb-true, Some, IsSome}
+use Rattle.std.proofs.Common.{◌≡◌, ◌≢◌, ◌⊎◌, inl, inr, ⊎_elim, ◌<◌, ◌≤◌, ◌+◌, ◌-◌, ◌==◌, ◌||◌, ℕ, Bool, true, false, List, [], ◌∷◌, ◌++◌, length, map, drop, Result, Ok, Err, refl, sym, ap, ◌∙◌, subst, arith, eqb-true, Some, IsSome}
 use Rattle.std.proofs.lemmas.List.{map-append, take-append-drop}
 use Rattle.x86_64_live.proofs.PageSpots.{path_up, way_reads}
 use Rattle.x86_64_mappers.specs.Layouts.{direct_at}
 use Rattle.x86_64_live.specs.PageRanges.{PageEntry, ExchangesPages, exchange_of, is_page}
-use Rattle.x86_64_live.specs.private.RangeSteps.{AreAlikeFrom, HasNoPage, IsFirst, IsOnWay, IsSpot, KeepPages, wanted_by}
+use Rattle.x86_64_live.specs.private.RangeSteps.{AreAlikeFrom, HasNoPage, IsFirst, IsFound, IsOnWay, IsSpot, KeepPages, wanted_by}
+use Rattle.x86_64_live.specs.declared.ranges.RangeEnd.{RangeEnd}
+use Rattle.x86_64_live.specs.declared.ranges.RangeEnd.TheVariants.{All, More, LargerPage}
 use Rattle.x86_64_live.specs.declared.ranges.search.Spot.{Spot}
 use Rattle.x86_64_live.specs.declared.ranges.search.Wanted.{Wanted}
 use Rattle.x86_64_live.specs.declared.ranges.search.Wanted.TheVariants.{Used, Present}
@@ -94,6 +96,12 @@ module _ (L : ℕ) (places : Places) (root : ℕ) (mapping : IsMapping places) (
         page = found.page;
         is = found.is;
       }
+
+      pub found_before : {Levels : Type 0} (end : ℕ) → end ≤ position_count L → 3 ≤ L → (r : Result Spot (RangeEnd Levels)) → IsFound L root wanted (paths_in n) from end r → IsFound L root wanted (paths_in m) from end r
+      found_before end inside three (Ok s) found = first_before end inside three s true found
+      found_before end inside three (Err All) none = none_before end inside three none
+      found_before end inside three (Err (More next)) none = none
+      found_before end inside three (Err (LargerPage next)) found = (found.0, found.1, first_before end inside three found.0 false found.2)
 
     -- ---- a page more
 
