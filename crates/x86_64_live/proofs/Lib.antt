@@ -3,6 +3,7 @@ pub mod Refusals
 pub mod Maps
 pub mod Prepared
 pub mod PreparedThenMapped
+pub mod CleanUpsInWords
 pub mod PageMasks
 pub mod PageSpots
 pub mod PagesBetween

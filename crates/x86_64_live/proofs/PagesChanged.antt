@@ -11,7 +11,7 @@ use Rattle.x86_64_live.specs.declared.ranges.search.Spot.{Spot}
 use Rattle.x86_64_live.specs.declared.ranges.search.Wanted.{Wanted}
 use Rattle.x86_64_live.specs.declared.ranges.search.Wanted.TheVariants.{Used, Present}
 use Rattle.x86_64_model.specs.Entry.{used, huge}
-use Rattle.x86_64_model.specs.Hierarchy.{◌laid_in◌, PoolFits, Valid, paths, words}
+use Rattle.x86_64_model.specs.Hierarchy.{◌laid_in◌, MayCleanUp, PoolFits, Valid, paths, words}
 use Rattle.x86_64_model.specs.Laws.EntriesInPlace.{IsInPlace, MayReplace, NamesNoTable, OneChanged, with_word}
 use Rattle.x86_64_model.specs.Laws.Live.{IsLiveAfter}
 use Rattle.x86_64_model.specs.Layout.{Layout}
@@ -73,6 +73,13 @@ module _ (L : ℕ) (places : Places) (root : ℕ) (mapping : IsMapping places) (
 
     pub tables_now : (q : List ℕ) → table_at L root (paths_in n) q ≡ table_at L root (paths_in m) q
     tables_now = live.tables
+
+    pub may_clean_now : (serves : ℕ → Bool) (held : List ℕ) → MayCleanUp (l laid_in m) serves held → MayCleanUp (l laid_in n) serves held
+    may_clean_now serves held may = record {
+      valid = valid_now;
+      serves_tables = λ i q f is. may.serves_tables i q f (sym (tables_now (i ∷ q)) ∙ is);
+      none_held = λ i q f is. may.none_held i q f (sym (tables_now (i ∷ q)) ∙ is);
+    }
 
     pub way_now : (p level frame : ℕ) → IsOnWay L root (paths_in n) p level frame → IsOnWay L root (paths_in m) p level frame
     way_now p level frame way = record { low = way.low; high = way.high; leads = sym (tables_now (path_at L (level + 1) p)) ∙ way.leads }

@@ -2,10 +2,11 @@
 use Rattle.std.proofs.Common.{suc, ◌≡◌, ◌≢◌, ◌⊎◌, inl, inr, ⊎_elim, ◌<◌, ◌≤◌, ◌+◌, ◌-◌, ◌*◌, ◌/◌, ◌%◌, ◌==◌, ◌&&◌, ◌||◌, ℕ, Bool, true, false, nat_le, List, [], ◌∷◌, ◌++◌, length, map, drop, set, slice_set, Err, refl, sym, ap, ap₂, ◌∙◌, subst, arith, append_assoc, eqb-true, get_or, not}
 use Rattle.std.proofs.lemmas.Bool.{and_parts, cases_lt, eqb-false, leb-true, leb-false, ne_eqb}
 use Rattle.std.proofs.lemmas.List.{length-append, length-map, map-append}
-use Rattle.std.proofs.Math.Seq.{set-append_seam, drop-cons}
+use Rattle.std.proofs.Math.Seq.{set-append_seam, drop-cons, drop-nil}
 use Rattle.std.proofs.Math.Nat.{div-add-mod, mod-lt, mul_comm, mul-div_left}
 use Rattle.std.proofs.Math.Bool.{and-false}
-use Rattle.x86_64_live.specs.PageRanges.{PageEntry, AllWhole, ListsPages, SeesPages, StopsAt, is_page, pages_between, reached, told}
+use Rattle.x86_64_live.specs.DroppedRanges.{EndsAtPage}
+use Rattle.x86_64_live.specs.PageRanges.{PageEntry, AllWhole, EndsFor, ListsPages, SeesPages, StopsAt, is_page, pages_between, reached, told}
 use Rattle.x86_64_live.specs.private.RangeSteps.{HasNoPage, IsFirst, IsFound, IsSpot, IsWithin, leads_down}
 use Rattle.x86_64_live.specs.declared.ranges.PageWord.{PageWord}
 use Rattle.x86_64_live.specs.declared.ranges.RangeEnd.{RangeEnd}
@@ -248,3 +249,24 @@ module _ (L : ℕ) (wanted : ℕ → Bool) (M : PathMap) where
       pages_reached (More next) none = absurd none
       pages_reached (LargerPage next) found = let s = found.0 in let is = found.2 in
           same_up first whole before p s.position within.from is.after within.aligned is.none ∙ ap (pages_between L wanted M first) found.1
+
+    -- pages that go into no array
+
+    pub listed_alone : (first p : ℕ) → AllWhole L wanted M first p → ListsPages L wanted M first p (length (pages_between L wanted M first p)) [] (map (told L) (pages_between L wanted M first p))
+    listed_alone first p all = let pages = pages_between L wanted M first p in record {
+      number = refl;
+      array = sym (ap (λ ys. map (told L) pages ++ ys) (drop-nil (length pages)) ∙ append_none (map (told L) pages));
+      whole = all;
+    }
+
+    module _ (Levels : Type 0) (first last : ℕ) (whole : first % 4096 ≡ 0) (last_whole : last % 4096 ≡ 0) (p : ℕ) (within : IsWithin first (last + 4096) p) (all : AllWhole L wanted M first p) where
+      at_page : (places count : ℕ) (end : RangeEnd Levels) → IsFound L root wanted M p (last + 4096) (Err end) → EndsFor L wanted M first last places count end → EndsAtPage L wanted M first last end
+      at_page places count All none is = tt
+      at_page places count (More next) none is = none
+      at_page places count (LargerPage next) found is = is
+
+      pub ends_alone : (end : RangeEnd Levels) → IsFound L root wanted M p (last + 4096) (Err end) → AllWhole L wanted M first (reached last end) × EndsAtPage L wanted M first last end
+      ends_alone end found =
+          let pages = pages_between L wanted M first p in
+          let sees = ends_listed Levels first last whole last_whole [] p (length pages) (map (told L) pages) within (listed_alone first p all) end found in
+          (sees.listed.whole, at_page 0 (length pages) end found sees.end)

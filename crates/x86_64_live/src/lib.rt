@@ -11,5 +11,6 @@ pub use look::{would_map, would_prepare};
 pub use map::{PageMap, map_or_nothing, may_map};
 pub use preparation::{may_prepare, prepare};
 pub use ranges::{
-    PageWord, RangeEnd, RangeSeen, RangeStop, are_flag_masks, change_range, list_range, take_range,
+    PageWord, RangeEnd, RangeSeen, RangeStop, are_flag_masks, change_range, drop_range, list_range,
+    take_range,
 };

@@ -10,8 +10,10 @@ ghost use Rattle.x86_64_model.specs.Live.{by_masks};
 ghost use Rattle.x86_64_model.specs.Memory.{words_of};
 ghost use Rattle.x86_64_model.specs.Position.{index, position_count, raw};
 
+mod drops;
 mod search;
 
+pub use drops::drop_range;
 use search::{Cursor, Spot, Wanted, next_page};
 use x86_64_addr::addr::VirtAddrIn;
 use x86_64_addr::level_count::LevelCount;
