@@ -9,3 +9,4 @@ pub mod PageSpots
 pub mod PagesBetween
 pub mod PagesChanged
 pub mod PagesListed
+pub mod RangesDropped

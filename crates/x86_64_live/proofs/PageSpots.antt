@@ -5,8 +5,8 @@ use Rattle.std.proofs.Math.Bool.{and-false}
 use Rattle.std.proofs.Math.Nat.{div-add-mod, div-div-eq-div-mul, div-mul-le_self, mod-lt, mul_comm, mul_assoc, mul-div_left}
 use Rattle.std.proofs.Math.Seq.{take-suc}
 use Rattle.x86_64_mappers.proofs.Translate.WalkedPart.{index_at}
-use Rattle.x86_64_live.specs.PageRanges.{is_page}
-use Rattle.x86_64_live.specs.private.RangeSteps.{IsOnWay, IsSpot, StartsAt, HasNoPage, leads_down, below_of}
+use Rattle.x86_64_live.specs.PageRanges.{HasNoPage, is_page}
+use Rattle.x86_64_live.specs.private.RangeSteps.{IsOnWay, IsSpot, StartsAt, leads_down, below_of}
 use Rattle.x86_64_live.specs.declared.ranges.search.Cursor.{Cursor}
 use Rattle.x86_64_live.specs.declared.ranges.search.Spot.{Spot}
 use Rattle.x86_64_model.specs.Entry.{huge, address, names_table}

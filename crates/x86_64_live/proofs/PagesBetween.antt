@@ -5,8 +5,8 @@ use Rattle.std.proofs.lemmas.Bool.{cases_eq, cases_lt, ne_eqb}
 use Rattle.std.proofs.lemmas.Grind.{flat_map-append}
 use Rattle.std.proofs.Math.Bool.{and-false}
 use Rattle.std.proofs.Math.Nat.{div-add-mod, mul_comm}
-use Rattle.x86_64_live.specs.PageRanges.{PageEntry, AllWhole, is_page, page_at, pages_at, pages_between}
-use Rattle.x86_64_live.specs.private.RangeSteps.{HasNoPage, IsSpot, leads_down, wanted_by}
+use Rattle.x86_64_live.specs.PageRanges.{HasNoPage, PageEntry, AllWhole, is_page, page_at, pages_at, pages_between}
+use Rattle.x86_64_live.specs.private.RangeSteps.{IsSpot, leads_down, wanted_by}
 use Rattle.x86_64_live.specs.declared.ranges.search.Spot.{Spot}
 use Rattle.x86_64_live.specs.declared.ranges.search.Wanted.{Wanted}
 use Rattle.x86_64_live.specs.declared.ranges.search.Wanted.TheVariants.{Used, Present}

@@ -6,13 +6,13 @@ use Rattle.std.proofs.Math.Seq.{set-append_seam, drop-cons, drop-nil}
 use Rattle.std.proofs.Math.Nat.{div-add-mod, mod-lt, mul_comm, mul-div_left}
 use Rattle.std.proofs.Math.Bool.{and-false}
 use Rattle.x86_64_live.specs.DroppedRanges.{EndsAtPage}
-use Rattle.x86_64_live.specs.PageRanges.{PageEntry, AllWhole, EndsFor, ListsPages, SeesPages, StopsAt, is_page, pages_between, reached, told}
-use Rattle.x86_64_live.specs.private.RangeSteps.{HasNoPage, IsFirst, IsFound, IsSpot, IsWithin, leads_down}
+use Rattle.x86_64_live.specs.PageRanges.{HasNoPage, PageEntry, AllWhole, EndsFor, ListsPages, SeesPages, StopsAt, is_page, pages_between, reached, told}
+use Rattle.x86_64_live.specs.private.RangeSteps.{IsFirst, IsFound, IsSpot, IsWithin, leads_down}
 use Rattle.x86_64_live.specs.declared.ranges.PageWord.{PageWord}
 use Rattle.x86_64_live.specs.declared.ranges.RangeEnd.{RangeEnd}
 use Rattle.x86_64_live.specs.declared.ranges.RangeEnd.TheVariants.{All, More, LargerPage}
 use Rattle.x86_64_live.specs.declared.ranges.search.Spot.{Spot}
-use Rattle.x86_64_live.proofs.PageSpots.{path_same, span_pages}
+use Rattle.x86_64_live.proofs.PageSpots.{none_joined, path_same, span_pages}
 use Rattle.x86_64_live.proofs.PagesBetween.{between_none, between_past, between_split, none_between, none_is_whole, one_between, one_is_whole, whole_joined}
 use Rattle.x86_64_model.specs.Entry.{used, huge}
 use Rattle.x86_64_model.specs.Memory.{Words}
@@ -270,3 +270,9 @@ module _ (L : ℕ) (wanted : ℕ → Bool) (M : PathMap) where
           let pages = pages_between L wanted M first p in
           let sees = ends_listed Levels first last whole last_whole [] p (length pages) (map (told L) pages) within (listed_alone first p all) end found in
           (sees.listed.whole, at_page 0 (length pages) end found sees.end)
+
+    pub none_reached : (Levels : Type 0) (first last p : ℕ) → HasNoPage L wanted M first p → (end : RangeEnd Levels) → IsFound L root wanted M p (last + 4096) (Err end) → HasNoPage L wanted M first (reached last end)
+    none_reached Levels first last p before All none = none_joined L T root M valid wanted first p (last + 4096) before none
+    none_reached Levels first last p before (More next) none = absurd none
+    none_reached Levels first last p before (LargerPage next) found =
+        subst (HasNoPage L wanted M first) found.1 (none_joined L T root M valid wanted first p found.0.position before found.2.none)

@@ -1,5 +1,5 @@
 -- Ranges of pages of all sizes: which entries of pages lie in them, and what is done with these.
-use Rattle.std.specs.Prelude.{◌≡◌, ◌⊎◌, ◌<◌, ◌≤◌, ◌+◌, ◌*◌, ◌/◌, ◌%◌, ◌==◌, ◌&&◌, ◌||◌, ◌++◌, ℕ, Bool, true, cond, List, [], ◌∷◌, length, map, drop, Option, Some, None, bit_and}
+use Rattle.std.specs.Prelude.{◌≡◌, ◌⊎◌, ◌<◌, ◌≤◌, ◌+◌, ◌*◌, ◌/◌, ◌%◌, ◌==◌, ◌&&◌, ◌||◌, ◌++◌, ℕ, Bool, true, false, cond, List, [], ◌∷◌, length, map, drop, Option, Some, None, bit_and}
 use Rattle.std.specs.List.{filter_map, flat_map}
 use Rattle.x86_64_live.specs.declared.ranges.PageWord.{PageWord}
 use Rattle.x86_64_live.specs.declared.ranges.RangeEnd.{RangeEnd}
@@ -51,6 +51,10 @@ LiesIn first next level x = (first ≤ x / span level * span level) × (x / span
 abbrev pub AllWhole : (L : ℕ) → (wanted : ℕ → Bool) → PathMap → (first next : ℕ) → Type 0
 AllWhole L wanted M first next = (x level : ℕ) → first ≤ x → x < next → 1 ≤ level → level ≤ 3
     → is_page wanted level (entry M (path_at L level x)) ≡ true → LiesIn first next level x
+
+-- No position from p up to but excluding q is one of a wanted page.
+abbrev pub HasNoPage : (L : ℕ) → (wanted : ℕ → Bool) → PathMap → (p q : ℕ) → Type 0
+HasNoPage L wanted M p q = (x level : ℕ) → p ≤ x → x < q → 1 ≤ level → level ≤ 3 → is_page wanted level (entry M (path_at L level x)) ≡ false
 
 -- ---- why a range ends
 

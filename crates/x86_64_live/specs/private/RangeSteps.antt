@@ -1,6 +1,6 @@
 -- The search for the next page of a range, from table to table.
 use Rattle.std.specs.Prelude.{◌≡◌, ◌≢◌, ◌⊎◌, ◌<◌, ◌≤◌, ◌+◌, ◌-◌, ◌%◌, ◌==◌, ◌&&◌, nat_le, ℕ, Bool, true, false, not, cond, Option, Some, None, Result, Ok, Err}
-use Rattle.x86_64_live.specs.PageRanges.{is_page}
+use Rattle.x86_64_live.specs.PageRanges.{HasNoPage, is_page}
 use Rattle.x86_64_live.specs.declared.ranges.RangeEnd.{RangeEnd}
 use Rattle.x86_64_live.specs.declared.ranges.RangeEnd.TheVariants.{All, More, LargerPage}
 use Rattle.x86_64_live.specs.declared.ranges.search.Cursor.{Cursor}
@@ -47,10 +47,6 @@ LooksDown L places m c s = (root : ℕ) → let h = direct_at L places root laid
 -- table's first.
 abbrev pub StartsAt : (L root frame level : ℕ) → Cursor → Type 0
 StartsAt L root frame level c = ((c.frame ≡ root) × (c.level ≡ L)) ⊎ ((c.frame ≡ frame) × ((c.level ≡ level) × (index level c.position ≢ 0)))
-
--- No position from p up to but excluding q is one of a wanted page.
-abbrev pub HasNoPage : (L : ℕ) → (wanted : ℕ → Bool) → PathMap → (p q : ℕ) → Type 0
-HasNoPage L wanted M p q = (x level : ℕ) → p ≤ x → x < q → 1 ≤ level → level ≤ 3 → is_page wanted level (entry M (path_at L level x)) ≡ false
 
 -- The first wanted page from a position on, with a position before `end`, is at this spot, to which the relation holds.
 pub record IsFirst (L root : ℕ) (wanted : ℕ → Bool) (M : PathMap) (from end : ℕ) (s : Spot) (relation : Bool) : Type 0 where

@@ -3,8 +3,7 @@ ghost use Rattle.std.specs.Prelude.{◌≡◌};
 ghost use Rattle.x86_64_mappers.specs.CleanUps.{deallocator_store, MayCleanUpInto};
 ghost use Rattle.x86_64_mappers.specs.Layouts.{direct_at};
 ghost use Rattle.x86_64_live.specs.DroppedRanges.{DropsRange, EndsAtPage};
-ghost use Rattle.x86_64_live.specs.PageRanges.{pages_between, reached, AllWhole, ExchangesPages};
-ghost use Rattle.x86_64_live.specs.private.RangeSteps.{HasNoPage};
+ghost use Rattle.x86_64_live.specs.PageRanges.{pages_between, reached, AllWhole, ExchangesPages, HasNoPage};
 ghost use Rattle.x86_64_model.specs.Entry.{used};
 ghost use Rattle.x86_64_model.specs.Hierarchy.{◌laid_in◌, Valid, paths};
 
@@ -73,6 +72,9 @@ fn take_all<L: LevelCount, T: TableMemory, P: PageTableFrameMapping>(
         ExchangesPages layout (λ _. 0)
         (pages_between L.LEVELS used (paths (layout laid_in T.tables memory.old))
         range.start (reached range.end result)) (T.tables memory.old) (T.tables memory.new) }
+    ensures none { HasNoPage L.LEVELS used
+        (paths (direct_at L.LEVELS (P.places mapping.now) root laid_in T.tables memory.new))
+        range.start (reached range.end result) }
     ensures lent { T.lent memory.new ≡ T.lent memory.old }
 {
     let end = end_of(range);

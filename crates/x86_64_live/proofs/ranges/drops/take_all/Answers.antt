@@ -1,21 +1,30 @@
-use Rattle.std.proofs.Common.{◌≡◌, ◌∙◌, ◌≤◌, ◌<◌, ◌+◌, ◌%◌, ℕ, true, length, map, [], Err, inl, inr, refl, sym, ap, subst, subst₂, arith}
+use Rattle.std.proofs.Common.{◌≡◌, ◌∙◌, ◌≤◌, ◌<◌, ◌+◌, ◌*◌, ◌/◌, ◌%◌, ◌==◌, ℕ, true, nat_le, eqb-true, length, map, [], Err, inl, inr, refl, sym, ap, subst, subst₂, arith}
 use Rattle.std.proofs.lemmas.Bool.{and_parts}
-use Rattle.x86_64_live.proofs.PageSpots.{goes_past, on_root}
+use Rattle.std.proofs.Math.Nat.{div-add-mod, mul_comm}
+use Rattle.x86_64_live.proofs.PageSpots.{goes_past, none_joined, on_root}
 use Rattle.x86_64_live.proofs.PagesBetween.{between_none}
-use Rattle.x86_64_live.proofs.PagesListed.{ends_alone, listed_alone, next_is, next_within, page_ends, pages_more, pages_reached, top, whole_more}
-use Rattle.x86_64_live.proofs.PagesChanged.{alike_more, exchanges_more, exchanges_none, first_before, found_before, there, valid_now, way_kept}
+use Rattle.x86_64_live.proofs.PagesListed.{ends_alone, listed_alone, next_is, next_within, none_reached, page_ends, pages_more, pages_reached, top, whole_more}
+use Rattle.x86_64_live.proofs.PagesChanged.{alike_more, exchanges_more, exchanges_none, first_before, found_before, none_more, there, valid_now, way_kept}
 use Rattle.x86_64_mappers.specs.Layouts.{direct_at}
-use Rattle.x86_64_live.specs.PageRanges.{AllWhole, ExchangesPages, pages_between, told}
+use Rattle.x86_64_live.specs.PageRanges.{AllWhole, ExchangesPages, HasNoPage, pages_between, told}
+use Rattle.x86_64_live.specs.declared.ranges.search.Spot.{Spot}
 use Rattle.x86_64_live.specs.private.RangeSteps.{AreAlikeFrom, IsFirst, IsFound, IsOnWay, IsWithin, KeepPages}
 use Rattle.x86_64_model.specs.Entry.{used}
 use Rattle.x86_64_model.specs.Hierarchy.{◌laid_in◌, paths, words}
 use Rattle.x86_64_model.specs.Laws.EntriesInPlace.{with_word}
-use Rattle.x86_64_model.specs.Position.{index, position_count}
+use Rattle.x86_64_model.specs.PathMap.{PathMap}
+use Rattle.x86_64_model.specs.Position.{index, position_count, span}
 use Rattle.x86_64_model.proofs.Lemmas.Hierarchies.Changes.{zero_not_used}
 use Rattle.x86_64_live.proofs.ranges.drops.take_all.Goals as goal
 
 abbrev zero : ℕ → ℕ
 zero _ = 0
+
+-- a page that is as a whole in the range starts at its position
+starts_there : (L root p end : ℕ) (M : PathMap) (s : Spot) → IsFirst L root used M p end s true → s.position / span s.level * span s.level ≡ s.position
+starts_there L root p end M s found =
+    let starts = eqb-true (s.position % span s.level) 0 (and_parts (s.position % span s.level == 0) (nat_le (s.position + span s.level) end) found.is).0 in
+    mul_comm (s.position / span s.level) (span s.level) ∙ (let all = div-add-mod s.position (span s.level) in omega (arith, all, starts))
 
 keeps : KeepPages zero
 keeps e large = inl refl
@@ -34,6 +43,7 @@ loop-spot-init g c =
       λ less. subst₂ (IsOnWay L root M at.position) (sym r.level) (sym r.frame) (on_root L (words (l laid_in old)) root M valid.valid at.position some),
       subst (λ ps. ExchangesPages l zero ps old old) (sym (ap (pages_between L used M first) start ∙ between_none L used M first)) (exchanges_none L places root mapping some zero old),
       λ x level after to low high. refl,
+      subst (HasNoPage L used M first) (sym start) (λ x level from to low high. absurd (omega (arith, from, to))),
       refl,
     )
 
@@ -100,6 +110,20 @@ returns-in-Err-clause-changes g c =
     (pages_reached L used M (words (l laid_in old)) root valid.valid three zero_not_used g.row.L.Denot first last whole e.aligned [] p (length pages) (map (told L) pages) within
     (listed_alone L used M (words (l laid_in old)) root valid.valid three zero_not_used first p inv.0) c.in-Err.end found) inv.3
 
+pub returns-in-Err-clause-none : goal.returns-in-Err-clause-none
+returns-in-Err-clause-none g c =
+    let L = g.L.LevelCount.LEVELS in let root = c.args.root in let places = g.P.PageTableFrameMapping.places c.args.mapping.now in
+    let l = direct_at L places root in let old = g.T.TableMemory.tables c.args.memory.now in let M = paths (l laid_in old) in
+    let valid = c.requires in let four = g.L.LevelCount.at_least_four in let some : 0 < L = omega (arith, four) in let three : 3 ≤ L = omega (arith, four) in
+    let mapping = g.met.P.PageTableFrameMapping.is_mapping c.args.mapping.now in let first = c.args.range.start in
+    let whole : first % 4096 ≡ 0 = subst (λ n. n % 4096 ≡ 0) c.place.ensures.value c.place.ensures.aligned in
+    let cur = g.T.TableMemory.tables c.loop-spot.memory in let p = c.loop-spot.cursor.position in let last = c.args.range.end in let e = c.end_of-end.ensures in
+    let inv = c.loop-spot.invariant in let pages = pages_between L used M first p in
+    let within : IsWithin first (last + 4096) p = subst (λ n. IsWithin first n p) e.value inv.1 in
+    let inside : last + 4096 ≤ position_count L = subst (λ n. n ≤ position_count L) e.value e.inside in
+    none_reached L used (paths (l laid_in cur)) (words (l laid_in cur)) root (valid_now L places root mapping some zero pages old cur valid inv.3).valid three zero_not_used g.row.L.Denot first last p inv.5 c.in-Err.end
+    (subst (λ n. IsFound {Levels = g.row.L.Denot} L root used (paths (l laid_in cur)) p n (Err c.in-Err.end)) e.value c.in-Err.ensures)
+
 pub set_word_at-requires-clause-there : goal.set_word_at-requires-clause-there
 set_word_at-requires-clause-there g c =
     let L = g.L.LevelCount.LEVELS in let root = c.args.root in let places = g.P.PageTableFrameMapping.places c.args.mapping.now in
@@ -144,5 +168,9 @@ loop-spot-preserved g c =
           (exchanges_more L places root mapping some zero pages old cur valid inv.3 s now.spot parts.0 high parts.1 keeps new written),
       subst (AreAlikeFrom L M (paths (l laid_in new))) (sym at)
           (alike_more L places root mapping some zero pages old cur valid inv.3 s now.spot parts.0 high parts.1 keeps new written p inv.4 found.after lies),
-      c.set_word_at.ensures.lent ∙ inv.5,
+      subst (HasNoPage L used (paths (l laid_in new)) first) (sym at)
+          (none_more L places root mapping some zero pages old cur valid inv.3 s now.spot parts.0 high parts.1 keeps new written (λ e. refl) three (page_ends used s.level s.word now.page)
+          (starts_there L root p (last + 4096) M s found) first
+          (none_joined L (words (l laid_in cur)) root (paths (l laid_in cur)) (valid_now L places root mapping some zero pages old cur valid inv.3).valid used first p s.position inv.5 now.none)),
+      c.set_word_at.ensures.lent ∙ inv.6,
     )

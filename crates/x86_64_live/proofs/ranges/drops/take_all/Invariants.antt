@@ -1,6 +1,6 @@
 use Rattle.std.proofs.Common.{◌≡◌, ◌<◌, ◌-◌}
 use Rattle.x86_64_mappers.specs.Layouts.{direct_at}
-use Rattle.x86_64_live.specs.PageRanges.{AllWhole, ExchangesPages, pages_between}
+use Rattle.x86_64_live.specs.PageRanges.{AllWhole, ExchangesPages, HasNoPage, pages_between}
 use Rattle.x86_64_live.specs.private.RangeSteps.{AreAlikeFrom, IsOnWay, IsWithin}
 use Rattle.x86_64_model.specs.Entry.{used}
 use Rattle.x86_64_model.specs.Hierarchy.{◌laid_in◌, paths}
@@ -17,6 +17,7 @@ invariant-loop-spot g l =
     × (l.cursor.position < l.end → IsOnWay L l.root (paths (layout laid_in new)) l.cursor.position l.cursor.level l.cursor.frame)
     × ExchangesPages layout (λ _. 0) (pages_between L used M first l.cursor.position) old new
     × AreAlikeFrom L M (paths (layout laid_in new)) l.cursor.position
+    × HasNoPage L used (paths (layout laid_in new)) first l.cursor.position
     × (g.T.TableMemory.lent l.memory ≡ g.T.TableMemory.lent l.initial.memory)
 
 abbrev pub decreases-loop-spot : goal.decreases-loop-spot

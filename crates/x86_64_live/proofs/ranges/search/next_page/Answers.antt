@@ -2,7 +2,8 @@ use Rattle.std.proofs.Common.{◌≡◌, ◌∙◌, ◌<◌, ◌≤◌, ◌+◌,
 use Rattle.x86_64_live.proofs.PageSpots.{end_aligned, none_joined, span_has_none, goes_past}
 use Rattle.x86_64_live.proofs.PagesBetween.{zero_not_wanted}
 use Rattle.x86_64_mappers.specs.Layouts.{direct_at}
-use Rattle.x86_64_live.specs.private.RangeSteps.{HasNoPage, IsSpot, LooksDown, wanted_by}
+use Rattle.x86_64_live.specs.PageRanges.{HasNoPage}
+use Rattle.x86_64_live.specs.private.RangeSteps.{IsSpot, LooksDown, wanted_by}
 use Rattle.x86_64_model.specs.Hierarchy.{◌laid_in◌, paths, words}
 use Rattle.x86_64_model.specs.Position.{span}
 use Rattle.x86_64_model.proofs.Lemmas.Mappings.SpanEnds.{span_end_after}

@@ -1,6 +1,7 @@
 use Rattle.std.proofs.Common.{◌≡◌, ◌<◌, ◌≤◌, ◌-◌, ◌%◌}
 use Rattle.x86_64_mappers.specs.Layouts.{direct_at}
-use Rattle.x86_64_live.specs.private.RangeSteps.{HasNoPage, IsOnWay, wanted_by}
+use Rattle.x86_64_live.specs.PageRanges.{HasNoPage}
+use Rattle.x86_64_live.specs.private.RangeSteps.{IsOnWay, wanted_by}
 use Rattle.x86_64_model.specs.Hierarchy.{◌laid_in◌, paths}
 use Rattle.x86_64_live.proofs.ranges.search.next_page.Given as goal
 
