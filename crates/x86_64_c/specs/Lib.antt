@@ -12,6 +12,7 @@ pub mod Preparations
 pub mod AddressSpaces
 pub mod Ranges
 pub mod WordRanges
+pub mod Drops
 pub mod Flushes
 pub mod private
 pub use Rattle.x86_64_model.specs.Hierarchy

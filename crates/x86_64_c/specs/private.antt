@@ -1,3 +1,4 @@
+pub mod DropLaws
 pub mod OrNothing
 pub mod Operations
 pub mod PoolLaws

@@ -8,6 +8,7 @@ mod accesses;
 mod address_spaces;
 mod arguments;
 mod changes;
+mod drops;
 mod entries;
 mod flush;
 mod listing;
