@@ -117,7 +117,8 @@
  * as they were, and all fit together again. This is proved of the calls of the model (spaces_stay),
  * as long as the root's shared entries stay what they are, and which calls leave them is proved,
  * too (calls_keep_root_entries). Of what is none of these it is tested: x64_prepare of larger pages
- * than 4 KiB, x64_take_range and x64_change_range, and splits and joins (x86_64_paging_live.h).
+ * than 4 KiB, x64_take_range, x64_change_range and x64_drop, and splits and joins
+ * (x86_64_paging_live.h).
  * Calls on spaces refuse everything else: they return X64_SHARED_ENTRY, and nothing has changed,
  * but for the pages that x64_space_map_list mapped before. That they do so is tested.
  *
@@ -125,7 +126,8 @@
  *                              if a shared entry above the page is 0, or lacks a parent flag
  *   x64_space_map_range, x64_space_map_range_with
  *                              the same, of any page
- *   x64_space_clean_up         if a page of the range is below a shared entry
+ *   x64_space_clean_up, x64_space_drop
+ *                              if a page of the range is below a shared entry
  *   x64_space_set_table_flags  at the highest level, if the entry is shared
  *   x64_space_access           with mark, if it would set X64_ACCESSED in a shared entry
  *   in x86_64_paging_live.h    exchanges of a shared entry; x64_space_join below one; and
@@ -176,6 +178,9 @@
  *   x64_clean_up,             X64_OK            tables: any INVLPG, or a load of CR3 with bit 63
  *   x64_clean_up_below_root                     clear. If EFER.TCE is set (AMD), INVLPG isn't
  *                                               enough
+ *   x64_drop                  X64_OK, X64_PARENT_ENTRY_HUGE_PAGE
+ *                                               everything, global pages too. x64_flush_after
+ *                                               doesn't know this call
  *   x64_map, x64_prepare      X64_OK            nothing; but everything, global pages too, if the
  *                                               parent flags have X64_NO_EXECUTE (those of
  *                                               x64_space_map don't)
@@ -203,7 +208,7 @@
  *               Nor is a right gone before the flush.
  *   a page      until a smaller page is mapped there: one INVLPG drops all of a large page only as
  *               long as no smaller one is there.
- *   tables      until a frame that a clean up freed is taken: by a map (x64_map,
+ *   tables      until a frame that a clean up or x64_drop freed is taken: by a map (x64_map,
  *               x64_map_as_mapper, x64_map_range), x64_prepare or x64_new_space with this pool, on
  *               whatever root, or by the caller. It may become another table or a root, which the
  *               processor would walk as the old one. The map of a page takes at most the last 3
@@ -250,7 +255,8 @@
  * crates/x86_64_live). For larger pages it is none of these calls. Nor is
  * x64_clean_up_below_root: that the flush after it is enough isn't proved. x64_take_range and
  * x64_change_range leave what exchanges of the entries of their pages leave (ExchangesPages there),
- * whose law is at x64_flush_between.
+ * whose law is at x64_flush_between. x64_drop leaves what such exchanges and then x64_clean_up
+ * leave.
  *
  *   flushed_calls_leave_no_stale_item (crates/x86_64/src/laws.rt)
  *       Calls on one root, each with its flush, which may be late: afterwards each access goes
@@ -276,7 +282,7 @@
  * then, too, if at each moment the tables are a valid hierarchy, with each entry as it was or as it
  * will be. The source writes so: a map clears a new table before it writes the entry that names it,
  * and a clean up looks for entries in a table before it clears the one that names it. A compiler
- * may change the order. Frames that a clean up puts back into the pool hold zeros. The model
+ * may change the order. Frames that a clean up or x64_drop puts into the pool hold zeros. The model
  * leaves out memory types, protection keys, nested paging, ASIDs and INVLPGB, and that a large page
  * may be cached in parts.
  *
@@ -294,10 +300,10 @@
  *    finding a word and exchanging it. x86_64_paging_live.h has the functions, and says more.
  *    x64_map, x64_map_as_mapper, x64_unmap and x64_update_flags touch the entry of their page and
  *    those above it, and x64_prepare only those above it; ranges touch those of all their pages;
- *    clean ups touch all entries in their range, and x64_give_up_space those of the root, and these
- *    free tables.
+ *    clean ups and x64_drop touch all entries in their range, and x64_give_up_space those of the
+ *    root, and all of these free tables.
  * 5. Processors mark entries at any moment. What they set is lost only by calls that read an entry
- *    and then write it: x64_unmap, x64_update_flags, their ranges, x64_take_range,
+ *    and then write it: x64_unmap, x64_update_flags, their ranges, x64_take_range, x64_drop,
  *    x64_change_range, x64_set_table_flags, maps and x64_prepare if they add parent flags, and
  *    x64_access with mark. The last one may also put back an entry that a guest took away in
  *    between. Exchanges lose nothing: a mark is in the entry, or an exchange returned it.
@@ -320,7 +326,7 @@
  * Proved is what the functions return and write that this file only declares, as their descriptions
  * say it: the raw calls, those on flushes and those on parts of larger pages. The contract of the
  * function of the same name in crates/x86_64_c/src carries it. Those of x64_list_range,
- * x64_take_range and x64_change_range say it by pages_between and ExchangesPages, which
+ * x64_take_range, x64_change_range and x64_drop say it by pages_between and ExchangesPages, which
  * crates/x86_64_live/specs/PageRanges.antt defines. The laws named above are theorems of these
  * names.
  *
@@ -853,6 +859,16 @@ X64_NODISCARD
 static inline uint32_t x64_space_clean_up_below_root(const x64_space *space, x64_pool *pool,
                                                      uint64_t first_page, uint64_t last_page);
 
+/* x64_drop: takes all pages away from the page of 4 KiB at `first` to that at `last`, of all sizes,
+ * with X64_PRESENT or without it, and frees the empty tables there, as x64_space_clean_up does: the
+ * end of a process in one call, without an array. It is for who knows the pages' frames by other
+ * means. Flush everything before one of these frames, or a frame of the pool, is used. Returns
+ * X64_OK; X64_PARENT_ENTRY_HUGE_PAGE at a larger page that is only partly in the range, with *next
+ * in it: the pages before it are gone; X64_SHARED_ENTRY as x64_space_clean_up; X64_BAD_PAGE. */
+X64_NODISCARD
+static inline uint32_t x64_space_drop(const x64_space *space, x64_pool *pool, uint64_t first,
+                                      uint64_t last, uint64_t *next);
+
 /* The starts of the first and of the last page of 4 KiB below the root's entry at an index from 0
  * to 511. A space that shares 256 to 512 cleans up from x64_space_first_page(space, 0) to
  * x64_space_last_page(space, 255). */
@@ -878,7 +894,8 @@ X64_NODISCARD
 static inline uint32_t x64_space_new(const x64_space *space, x64_pool *pool, x64_space *other);
 
 /* x64_give_up_space: puts the root's frame into the pool. Before, take all pages away that aren't
- * below shared entries, and clean up; and no processor uses the root any more. Returns X64_OK;
+ * below shared entries, and clean up, both of which x64_space_drop does; and no processor uses the
+ * root any more. Returns X64_OK;
  * X64_SPACE_IN_USE if an entry that isn't shared isn't 0; X64_BAD_INDICES. */
 X64_NODISCARD
 static inline uint32_t x64_space_give_up(const x64_space *space, x64_pool *pool);
@@ -1494,6 +1511,32 @@ uint32_t x64_clean_up_below_root(const x64_hierarchy *hierarchy, x64_table *tabl
                                  size_t *free_count, uint64_t first_page, uint64_t last_page);
 
 /*
+ * Takes all pages of a range away, those that x64_list_range would write, and then frees the empty
+ * tables of the range, as x64_clean_up does. It tells no page: it is for who knows their frames by
+ * other means, as for the end of a process. It passes over the range twice, and a missing table is
+ * passed over by one look: so its time is that of the tables of the range, 512 entries each. Before
+ * a frame of one of the pages or of the pool is used, flush everything, global pages too.
+ *
+ * As x64_take_range, it reads a word and then writes it: a mark that a processor sets in between is
+ * lost.
+ *
+ * Condition: the pool fits the hierarchy (x64_pool_fits).
+ *
+ * Returns X64_OK if all pages of the range are gone; then *next isn't written. Or one of these; the
+ * last two change nothing:
+ *   X64_PARENT_ENTRY_HUGE_PAGE   if a page of 2 MiB or 1 GiB is only partly in the range: all pages
+ *                                before it are gone, it and those behind it stay, the empty tables
+ *                                of the range are freed, and *next is the first address of the
+ *                                range in it. Split it and go on there, or begin at its start
+ *   X64_BAD_ARRAY                if *free_count > capacity
+ *   X64_BAD_PAGE                 if `first` or `last` isn't a canonical multiple of 4 KiB
+ */
+X64_NODISCARD
+uint32_t x64_drop(const x64_hierarchy *hierarchy, x64_table *tables, size_t table_count,
+                  uint64_t *pool, size_t capacity, size_t *free_count, uint64_t first,
+                  uint64_t last, uint64_t *next);
+
+/*
  * Makes one more address space. The last free frame of the pool becomes its root: it gets the
  * template's entries from shared_from up to, but not including, shared_to, and all its other words
  * become 0. Its physical address is written to *root, and *free_count decreases by one. If the
@@ -1883,6 +1926,15 @@ static inline uint32_t x64_space_clean_up_below_root(const x64_space *space, x64
     x64_hierarchy hierarchy = x64_space_hierarchy(space);
     return x64_clean_up_below_root(&hierarchy, space->tables, space->table_count, pool->frames,
                                    pool->capacity, &pool->free_count, first_page, last_page);
+}
+
+static inline uint32_t x64_space_drop(const x64_space *space, x64_pool *pool, uint64_t first,
+                                      uint64_t last, uint64_t *next) {
+    x64_hierarchy hierarchy = x64_space_hierarchy(space);
+    if (x64_space_shares_pages(space, first, last))
+        return X64_SHARED_ENTRY;
+    return x64_drop(&hierarchy, space->tables, space->table_count, pool->frames, pool->capacity,
+                    &pool->free_count, first, last, next);
 }
 
 static inline uint32_t x64_space_set_table_flags(const x64_space *space, uint64_t page,

@@ -214,6 +214,8 @@ static void try_spaces(void) {
     SAME(X64_BAD_INDICES, x64_space_give_up(&shared, &pool), x64_give_up_space(&hierarchy, TABLES_OF(b), POOL_OF(b), &free_count, 256, 513));
     SAME(X64_OK, x64_space_clean_up(&space, &pool, 0, UINT64_C(0xfffffffffffff000)),
          x64_clean_up(&hierarchy, TABLES_OF(b), POOL_OF(b), &free_count, 0, UINT64_C(0xfffffffffffff000)));
+    SAME(X64_OK, x64_space_drop(&space, &pool, 0x1000, 0x10000, &a.word),
+         x64_drop(&hierarchy, TABLES_OF(b), POOL_OF(b), &free_count, 0x1000, 0x10000, &b.word));
 }
 
 /* Makes each call with a space that is wrong, as its copy is. All return the same status, but tests of several spaces another one. */
@@ -260,6 +262,8 @@ static void try_wrong(uint32_t wanted, uint32_t wanted_of_fits) {
     SAME(wanted, x64_space_set_table_flags(&space, 0x1000, X64_SIZE_4KIB, 2, USUAL),
          x64_set_table_flags(&hierarchy, TABLES_OF(b), &page, 2, USUAL));
     SAME(wanted, x64_space_clean_up(&space, &pool, 0, last), x64_clean_up(&hierarchy, TABLES_OF(b), POOL_OF(b), &free_count, 0, last));
+    SAME(wanted, x64_space_drop(&space, &pool, 0, last, &a.word),
+         x64_drop(&hierarchy, TABLES_OF(b), POOL_OF(b), &free_count, 0, last, &b.word));
     SAME(wanted, x64_space_new(&space, &pool, &other), x64_new_space(&hierarchy, TABLES_OF(b), POOL_OF(b), &free_count, 0, 0, &b.word));
     SAME(wanted, x64_space_give_up(&space, &pool), x64_give_up_space(&hierarchy, TABLES_OF(b), POOL_OF(b), &free_count, 0, 0));
 }

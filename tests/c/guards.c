@@ -241,6 +241,13 @@ static void try_lower_half(void) {
 
 static void try_tables(const x64_space *space) {
     const uint64_t first = x64_space_first_page(space, FROM), own_end = x64_space_last_page(space, FROM - 1);
+    uint64_t next = 7;
+    WANTS(X64_SHARED_ENTRY, x64_space_drop(space, &pools[0], 0, x64_space_last_page(space, 511), &next));
+    WANTS(X64_SHARED_ENTRY, x64_space_drop(space, &pools[0], own_end, first, &next));
+    WANTS(X64_SHARED_ENTRY, x64_space_drop(space, &pools[0], page_at(UNUSED, 1), page_at(UNUSED, 1), &next));
+    WANTS(X64_OK, x64_space_drop(space, &pools[0], first, own_end, &next)); /* the last page comes before the first one */
+    WANTS(X64_BAD_PAGE, x64_space_drop(space, &pools[0], 5, first, &next));
+    CHECK(next == 7);
     WANTS(X64_SHARED_ENTRY, x64_space_clean_up(space, &pools[0], 0, x64_space_last_page(space, 511)));
     WANTS(X64_SHARED_ENTRY, x64_space_clean_up(space, &pools[0], 0, first));
     WANTS(X64_SHARED_ENTRY, x64_space_clean_up(space, &pools[0], own_end, first));

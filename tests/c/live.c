@@ -232,6 +232,27 @@ static void try_proved_ranges(uint64_t levels) {
     CHECK(x64_space_clean_up(&space, &pool, 0, LAST_PAGE) == X64_OK && pool.free_count == TABLES - 1 && fits());
 }
 
+/* A drop: all pages go, of each size, and their tables come back; and where it stops. */
+static void try_drop(uint64_t levels) {
+    const uint64_t half = (UINT64_C(1) << (11 + 9 * levels)) - 4096;
+    x64_taken pages[RANGE];
+    size_t count = 9;
+    uint64_t next = 7, old;
+    fill(levels);
+    CHECK(x64_space_exchange_page(&space, HEAP + 0x3000, X64_SIZE_4KIB, SWAPPED, &old) == X64_OK);
+    CHECK(x64_space_drop(&space, &pool, 0, half + 4096, &next) == X64_BAD_PAGE && next == 7);
+    CHECK(x64_space_drop(&space, &pool, HUGE, 0, &next) == X64_OK && next == 7 && fits());
+    CHECK(x64_space_drop(&space, &pool, HEAP, HEAP + 0x1000, &next) == X64_OK && next == 7 && fits());
+    CHECK(x64_space_list_range(&space, 0, LAST_PAGE, pages, RANGE, &count, &next) == X64_OK && count == PAGES);
+    CHECK(pages[0].page == HEAP + 0x2000 && pages[1].word == SWAPPED);
+    CHECK(x64_space_drop(&space, &pool, 0, HUGE + 4096, &next) == X64_PARENT_ENTRY_HUGE_PAGE && next == HUGE && fits());
+    CHECK(x64_space_list_range(&space, 0, LAST_PAGE, pages, RANGE, &count, &next) == X64_OK && count == 1 && pages[0].page == HUGE);
+    CHECK(x64_space_drop(&space, &pool, HUGE + 4096, half, &next) == X64_PARENT_ENTRY_HUGE_PAGE && next == HUGE + 4096);
+    CHECK(x64_space_drop(&space, &pool, 0, half, &next) == X64_OK && next == HUGE + 4096 && fits());
+    CHECK(pool.free_count == TABLES - 1);
+    CHECK(x64_space_list_range(&space, 0, LAST_PAGE, pages, RANGE, &count, &next) == X64_OK && count == 0);
+}
+
 /* x64_space_take_range_live passes over a table that lacks X64_PRESENT, with its pages, which the library's ranges see. */
 static void try_hidden_table(uint64_t levels) {
     x64_taken taken[RANGE];
@@ -756,6 +777,7 @@ int main(int argc, char **argv) {
         try_pages(levels);
         try_ranges(levels);
         try_proved_ranges(levels);
+        try_drop(levels);
         try_hidden_table(levels);
         try_second_pool(levels);
         try_no_parts();

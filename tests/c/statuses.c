@@ -150,6 +150,7 @@ enum function {
     UNMAP_RANGE,
     UPDATE_FLAGS_RANGE,
     CLEAN_UP,
+    DROP,
     TAKE_RANGE,
     CHANGE_RANGE,
     NEW_SPACE,
@@ -159,10 +160,10 @@ enum function {
 
 static const char *const names[FUNCTIONS] = {
     "x64_page_walk",          "x64_walk",      "x64_entries",      "x64_translate",       "x64_mappings",  "x64_list_range",
-    "x64_is_valid",      "x64_pool_fits",  "x64_spaces_fit",         "x64_spaces_fit_in", "x64_access",       "x64_map",
-    "x64_map_as_mapper", "x64_prepare",    "x64_unmap",              "x64_update_flags",  "x64_set_table_flags", "x64_map_range",
-    "x64_unmap_range",   "x64_update_flags_range", "x64_clean_up",   "x64_take_range",    "x64_change_range", "x64_new_space",
-    "x64_give_up_space",
+    "x64_is_valid",           "x64_pool_fits", "x64_spaces_fit",   "x64_spaces_fit_in",   "x64_access",    "x64_map",
+    "x64_map_as_mapper",      "x64_prepare",   "x64_unmap",        "x64_update_flags",    "x64_set_table_flags", "x64_map_range",
+    "x64_unmap_range",        "x64_update_flags_range", "x64_clean_up", "x64_drop",       "x64_take_range", "x64_change_range",
+    "x64_new_space",          "x64_give_up_space",
 };
 
 /* Returns the arguments that rows change. */
@@ -266,6 +267,8 @@ static uint32_t call(enum function function, const struct arguments *a) {
         return x64_update_flags_range(h, tables, n, &page, a->count, a->flags, &world.done);
     case CLEAN_UP:
         return x64_clean_up(h, tables, n, pool, a->capacity, &world.free_count, a->first_page, a->last_page);
+    case DROP:
+        return x64_drop(h, tables, n, pool, a->capacity, &world.free_count, start, last, &world.next);
     case TAKE_RANGE:
         return x64_take_range(h, tables, n, start, last, taken, a->list_capacity, &world.count, &world.next);
     case CHANGE_RANGE:
@@ -924,6 +927,21 @@ static const struct row clean_up[] = {
     {"all", X64_OK, {USUAL}, 1, 0, -1, {7}},
     {"the page alone", X64_OK, {SET(first_page, 0xc0000000), SET(last_page, 0xc0000000)}, 1, 0, -1, {7}},
     ROW("all before it", X64_OK, SET(last_page, 0xbffff000)),
+};
+
+/* Pages that are dropped, and the table that comes back last; or where the range goes on. */
+static const struct row drop_rows[] = {
+    {"all", X64_OK, {USUAL}, LISTED + 2, 0, -2, {7}},
+    {"a page without PRESENT", X64_OK, {SET(first_page, 0x2000), SET(last_page, 0x2000)}, 1, 0, 0, {0}},
+    {"all pages of a table", X64_OK, {SET(last_page, 0x3000)}, 4, 0, -1, {5}},
+    {"up to a part of a page", X64_PARENT_ENTRY_HUGE_PAGE, {SET(last_page, 0x200000)}, 4, 0, -1, {5}},
+    {"from inside a larger page on", X64_PARENT_ENTRY_HUGE_PAGE, {SET(first_page, 0x201000)}, 1, 0, -1, {7}},
+    WRITES("inside a larger page", X64_PARENT_ENTRY_HUGE_PAGE, OUT(0x40001000), SET(first_page, 0x40001000),
+        SET(last_page, 0x40001000)),
+};
+
+/* Ranges whose tables are freed, of both functions: nothing there, and bad arguments. */
+static const struct row freed_ranges[] = {
     ROW("all after it", X64_OK, SET(first_page, 0x100000000)),
     ROW("the last page before the first one", X64_OK, SET(first_page, LAST_PAGE), SET(last_page, 0)),
     ROW("more free frames than room", X64_BAD_ARRAY, SET(capacity, FREE - 1)),
@@ -1095,6 +1113,10 @@ static void read_out(enum function function, uint64_t levels, uint64_t out[4]) {
         world.count = before.count;
         world.next = before.next;
         break;
+    case DROP:
+        out[0] = world.next == before.next ? 0 : world.next;
+        world.next = before.next;
+        break;
     case ACCESS:
         out[0] = world.outcome.address, out[1] = world.outcome.code, out[2] = world.outcome.level, out[3] = dirty_table;
         world.outcome = before.outcome;
@@ -1129,7 +1151,7 @@ static void read_out(enum function function, uint64_t levels, uint64_t out[4]) {
 static bool writes(enum function function, uint32_t status) {
     if (function == ENTRIES)
         return status < X64_BAD_LEVELS;
-    if (function == LIST_RANGE || function == TAKE_RANGE || function == CHANGE_RANGE)
+    if (function == LIST_RANGE || function == DROP || function == TAKE_RANGE || function == CHANGE_RANGE)
         return status == X64_OK || status == X64_MORE || status == X64_PARENT_ENTRY_HUGE_PAGE;
     if (function == MAP_RANGE && (status == X64_FRAME_ALLOCATION_FAILED || status == X64_PARENT_ENTRY_HUGE_PAGE ||
         status == X64_PAGE_ALREADY_MAPPED))
@@ -1319,6 +1341,9 @@ int main(void) {
     TRY(UNMAP_RANGE, unmap_range);
     TRY(UPDATE_FLAGS_RANGE, update_flags_range);
     TRY(CLEAN_UP, clean_up);
+    TRY(CLEAN_UP, freed_ranges);
+    TRY(DROP, drop_rows);
+    TRY(DROP, freed_ranges);
     TRY(TAKE_RANGE, word_ranges);
     TRY(TAKE_RANGE, take_range);
     TRY(CHANGE_RANGE, word_ranges);
@@ -1351,6 +1376,7 @@ int main(void) {
         [UNMAP_RANGE] = {X64_MORE, X64_BAD_PAGE},
         [UPDATE_FLAGS_RANGE] = {X64_NOT_ALLOWED, X64_BAD_PAGE},
         [CLEAN_UP] = {X64_BAD_ARRAY, X64_BAD_PAGE},
+        [DROP] = {X64_PARENT_ENTRY_HUGE_PAGE, X64_BAD_ARRAY, X64_BAD_PAGE},
         [TAKE_RANGE] = {X64_MORE, X64_PARENT_ENTRY_HUGE_PAGE, X64_BAD_PAGE},
         [CHANGE_RANGE] = {X64_NOT_ALLOWED, X64_MORE, X64_PARENT_ENTRY_HUGE_PAGE, X64_BAD_PAGE},
         [NEW_SPACE] = {X64_FRAME_ALLOCATION_FAILED, X64_BAD_ARRAY, X64_BAD_INDICES},

@@ -19,3 +19,4 @@ pub mod FlushCalls
 pub mod WalkBySteps
 pub mod Prepared
 pub mod WordRangesTold
+pub mod Dropped

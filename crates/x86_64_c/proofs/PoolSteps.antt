@@ -169,27 +169,6 @@ module _ (l : Layout) (store : Store) (m : Memory) (page frame given more : ℕ)
 
 -- ---- clean ups
 
-clean_up_seen : {Lent : Type 0} (h after : Hierarchy Lent) (take_back : List ℕ → ℕ → List ℕ) (held : List ℕ) (low high : ℕ) (left : List ℕ)
-    → CleansUp h take_back held low high after left → CleansUp (of h.layout h.memory) take_back held low high (of after.layout after.memory) left
-clean_up_seen h after take_back held low high left cleans = record {
-  outcome = cleans.outcome;
-  returned = cleans.returned;
-  valid = cleans.valid;
-  fits = cleans.fits;
-  empty = cleans.empty;
-  others = cleans.others;
-  layout = cleans.layout;
-  lent = refl;
-}
-
-pub clean_up_did : {Lent : Type 0} (h after : Hierarchy Lent) (l : Layout) (m n : Memory) → h.layout ≡ l → h.memory ≡ m → after.memory ≡ n
-    → (take_back : List ℕ → ℕ → List ℕ) (held : List ℕ) (low high : ℕ) (left : List ℕ) → CleansUp h take_back held low high after left → CleansUp (of l m) take_back held low high (of l n) left
-clean_up_did h after l m n layout memory gone take_back held low high left cleans =
-    subst (λ l. CleansUp (of l m) take_back held low high (of l n) left) layout
-    (subst (λ m. CleansUp (of h.layout m) take_back held low high (of h.layout n) left) memory
-    (subst (λ n. CleansUp (of h.layout h.memory) take_back held low high (of h.layout n) left) gone
-    (subst (λ k. CleansUp (of h.layout h.memory) take_back held low high (of k after.memory) left) cleans.layout (clean_up_seen h after take_back held low high left cleans))))
-
 -- a clean up of a pool whose free frames are those that it holds
 pub cleaned : (l : Layout) (store rest : Store) → rest.serves ≡ store.serves → (m n : Memory) (low high : ℕ) (held left : List ℕ) → store.frames ≡ held → rest.frames ≡ left → IsParentFlags l.added_flags → TakesBack store.take_back
     → IsMapping l.places → StoreFits (of l m) store → CleansUp (of l m) store.take_back held low high (of l n) left → RunsCall (of l m) store (CleanUpRange low high) (of l n) rest ok

@@ -14,6 +14,7 @@ pub mod AddressSpaces
 pub mod Ranges
 pub mod WordRanges
 pub mod Parts
+pub mod Drops
 pub mod Flushes
 pub mod private
 pub use Rattle.x86_64_model.specs.Hierarchy

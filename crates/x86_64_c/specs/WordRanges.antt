@@ -1,10 +1,10 @@
 -- What calls on ranges of pages of all sizes do, whose words come back.
-use Rattle.std.specs.Prelude.{◌≡◌, ℕ, ◌==◌, ◌&&◌, Bool, List, Option, option_map, unwrap_or, bit_and}
+use Rattle.std.specs.Prelude.{◌≡◌, ℕ, ◌&&◌, Bool, List, Option, option_map, unwrap_or}
 use Rattle.std.specs.Option.{option_or}
 use Rattle.x86_64_c.specs.Arguments.{bad_hierarchy, position_of, starts_page, unless}
 use Rattle.x86_64_c.specs.Status as status
 use Rattle.x86_64_c.specs.declared.arguments.Hierarchy.{Hierarchy as Given}
-use Rattle.x86_64_live.specs.PageRanges.{ExchangesPages, SeesPages, goes_on_at, pages_between, reached, stop_of}
+use Rattle.x86_64_live.specs.PageRanges.{ExchangesPages, SeesPages, are_flag_masks, goes_on_at, pages_between, reached, stop_of}
 use Rattle.x86_64_live.specs.declared.ranges.PageWord.{PageWord}
 use Rattle.x86_64_live.specs.declared.ranges.RangeEnd.{RangeEnd}
 use Rattle.x86_64_live.specs.declared.ranges.RangeStop.{RangeStop}
@@ -23,14 +23,9 @@ wrong_ends L first last = unless (starts_page L 0x1000 first && starts_page L 0x
 abbrev pub bad_word_range : Given → (tables first last : ℕ) → Option ℕ
 bad_word_range h n first last = option_or (bad_hierarchy h n) (wrong_ends h.levels first last)
 
--- Whether masks change flags alone: the bits that are kept have HUGE_PAGE and all bits of the address, and those that are set have
--- none of them.
-abbrev pub change_flags : (keep set : ℕ) → Bool
-change_flags keep set = (bit_and keep 0x000f_ffff_ffff_f080 == 0x000f_ffff_ffff_f080) && (bit_and set 0x000f_ffff_ffff_f080 == 0)
-
 -- What is wrong with a change of flags: the range, or else the masks.
 abbrev pub wrong_change : (L first last keep set : ℕ) → Option ℕ
-wrong_change L first last keep set = option_or (wrong_ends L first last) (unless (change_flags keep set) status.not_allowed)
+wrong_change L first last keep set = option_or (wrong_ends L first last) (unless (are_flag_masks keep set) status.not_allowed)
 
 -- What is wrong with a hierarchy in an array of so many tables, or else with a change of flags.
 abbrev pub bad_word_change : Given → (tables first last keep set : ℕ) → Option ℕ

@@ -1,4 +1,5 @@
 pub mod BelowRootLaws
+pub mod DropLaws
 pub mod OrNothing
 pub mod Operations
 pub mod PoolLaws

@@ -10,6 +10,7 @@ mod address_spaces;
 mod arguments;
 mod below_root;
 mod changes;
+mod drops;
 mod entries;
 mod flush;
 mod listing;

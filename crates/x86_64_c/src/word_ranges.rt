@@ -13,7 +13,7 @@ use x86_64::structures::paging::mapper::PageTableFrameMapping;
 use x86_64::structures::paging::{PageIn, PageTable, Size4KiB};
 use x86_64::{LevelCount, TableMemory};
 use x86_64_live::{
-    PageWord, RangeSeen, RangeStop, are_flag_masks, change_range, list_range, take_range,
+    PageWord, RangeEnd, RangeSeen, RangeStop, are_flag_masks, change_range, list_range, take_range,
 };
 use x86_64_page::range::BlockRangeInclusive;
 
@@ -136,13 +136,20 @@ impl Ended {
     {
         Ended {
             count: seen.count,
-            status: match seen.end.stop() {
-                RangeStop::All => status::OK,
-                RangeStop::More => status::MORE,
-                RangeStop::LargerPage => status::PARENT_ENTRY_HUGE_PAGE,
-            },
+            status: status_of(&seen.end),
             next: seen.end.next_address(),
         }
+    }
+}
+
+/// Returns the status of the end of a range.
+pub fn status_of<L: LevelCount>(end: &RangeEnd<L>) -> u32
+    ensures { result ≡ words.range_status end.now }
+{
+    match end.stop() {
+        RangeStop::All => status::OK,
+        RangeStop::More => status::MORE,
+        RangeStop::LargerPage => status::PARENT_ENTRY_HUGE_PAGE,
     }
 }
 

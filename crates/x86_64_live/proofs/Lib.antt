@@ -3,9 +3,11 @@ pub mod Refusals
 pub mod Maps
 pub mod Prepared
 pub mod PreparedThenMapped
+pub mod CleanUpsInWords
 pub mod PageMasks
 pub mod PageParts
 pub mod PageSpots
 pub mod PagesBetween
 pub mod PagesChanged
 pub mod PagesListed
+pub mod RangesDropped

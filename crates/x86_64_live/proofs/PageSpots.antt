@@ -1,12 +1,12 @@
 -- The way down to a position, and what lies in the span of the entry at which it ends.
 use Rattle.std.proofs.Common.{zero, suc, ◌≡◌, ◌≢◌, ⊎_elim, ◌<◌, ◌≤◌, ◌+◌, ◌-◌, ◌*◌, ◌/◌, ◌%◌, ◌^◌, ◌==◌, ◌&&◌, ◌||◌, ℕ, Bool, true, false, not, cond, List, [], ◌∷◌, ◌++◌, length, take, nat_lt, Some, None, unwrap_or, refl, sym, ap, ap₂, ◌∙◌, subst, subst₂, arith, append_assoc, eqb-true, le-ltb}
-use Rattle.std.proofs.lemmas.Bool.{and_parts, cases_eq, cases_lt}
+use Rattle.std.proofs.lemmas.Bool.{and_parts, cases_eq, cases_lt, ne_eqb}
 use Rattle.std.proofs.Math.Bool.{and-false}
 use Rattle.std.proofs.Math.Nat.{div-add-mod, div-div-eq-div-mul, div-mul-le_self, mod-lt, mul_comm, mul_assoc, mul-div_left}
 use Rattle.std.proofs.Math.Seq.{take-suc}
 use Rattle.x86_64_mappers.proofs.Translate.WalkedPart.{index_at}
-use Rattle.x86_64_live.specs.PageRanges.{is_page}
-use Rattle.x86_64_live.specs.private.RangeSteps.{IsOnWay, IsSpot, StartsAt, HasNoPage, leads_down, below_of}
+use Rattle.x86_64_live.specs.PageRanges.{HasNoPage, is_page}
+use Rattle.x86_64_live.specs.private.RangeSteps.{IsOnWay, IsSpot, StartsAt, leads_down, below_of}
 use Rattle.x86_64_live.specs.declared.ranges.search.Cursor.{Cursor}
 use Rattle.x86_64_live.specs.declared.ranges.search.Spot.{Spot}
 use Rattle.x86_64_model.specs.Entry.{huge, address, names_table}
@@ -30,9 +30,6 @@ number_of level k x low high = ap (λ s. x / s) (span_up level k low high) ∙ s
 -- positions in one span are in one span of each higher level
 pub number_up : (level k p x : ℕ) → 1 ≤ level → level ≤ k → x / span level ≡ p / span level → x / span k ≡ p / span k
 number_up level k p x low high same = number_of level k x low high ∙ ap (λ n. n / 2 ^ (9 * (k - level))) same ∙ sym (number_of level k p low high)
-
-pub not_same : (a b : ℕ) → a ≢ b → (a == b) ≡ false
-not_same a b other = elim (a == b) as (λ t. (a == b) ≡ t → t ≡ false) [ true ↦ λ e. absurd (other (eqb-true a b e)) | false ↦ λ _. refl ] refl
 
 multiples : (a b : ℕ) → (a * 4096 + b * 4096) % 4096 ≡ 0
 multiples a b = omega arith
@@ -213,7 +210,7 @@ module _ (L : ℕ) where
                 let e = entry M (path_at L k x) in
                 let plain : huge e ≡ false = ap (λ q. huge (entry M q)) (path_same k s.position x low high (number_up s.level k s.position x spot.way.low least same))
                 ∙ above_is_table s.level s.position k spot.way.low more high (λ n. some_not_none s.frame (sym spot.way.leads ∙ n)) in
-                let not_one : (k == 1) ≡ false = (let low = spot.way.low in not_same k 1 (λ one. omega (arith, one, more, low))) in
+                let not_one : (k == 1) ≡ false = (let low = spot.way.low in ne_eqb k 1 (λ one. omega (arith, one, more, low))) in
                 ap₂ (λ one h. wanted e && (one || h)) not_one plain ∙ and-false (wanted e)
 
       -- nothing in the span is a wanted page, if the entry is none

@@ -1,16 +1,16 @@
 -- The pages between two positions, one after another.
 use Rattle.std.proofs.Common.{zero, suc, ◌≡◌, ◌≢◌, ⊎_elim, ◌<◌, ◌≤◌, ◌+◌, ◌-◌, ◌*◌, ◌/◌, ◌%◌, ◌==◌, ◌&&◌, ℕ, Bool, true, false, cond, [], ◌∷◌, ◌++◌, map, Option, Some, None, refl, sym, ap, ap₂, ◌∙◌, subst, arith, eq-eqb}
 use Rattle.std.specs.List.{cons_option, flat_map, range_with_len}
-use Rattle.std.proofs.lemmas.Bool.{cases_eq, cases_lt}
+use Rattle.std.proofs.lemmas.Bool.{cases_eq, cases_lt, ne_eqb}
 use Rattle.std.proofs.lemmas.Grind.{flat_map-append}
 use Rattle.std.proofs.Math.Bool.{and-false}
 use Rattle.std.proofs.Math.Nat.{div-add-mod, mul_comm}
-use Rattle.x86_64_live.specs.PageRanges.{PageEntry, AllWhole, is_page, page_at, pages_at, pages_between}
-use Rattle.x86_64_live.specs.private.RangeSteps.{HasNoPage, IsSpot, leads_down, wanted_by}
+use Rattle.x86_64_live.specs.PageRanges.{HasNoPage, PageEntry, AllWhole, is_page, page_at, pages_at, pages_between}
+use Rattle.x86_64_live.specs.private.RangeSteps.{IsSpot, leads_down, wanted_by}
 use Rattle.x86_64_live.specs.declared.ranges.search.Spot.{Spot}
 use Rattle.x86_64_live.specs.declared.ranges.search.Wanted.{Wanted}
 use Rattle.x86_64_live.specs.declared.ranges.search.Wanted.TheVariants.{Used, Present}
-use Rattle.x86_64_live.proofs.PageSpots.{span_pages, here, only_here, not_same}
+use Rattle.x86_64_live.proofs.PageSpots.{span_pages, here, only_here}
 use Rattle.x86_64_model.specs.Memory.{Words}
 use Rattle.x86_64_model.specs.Path.{path_at}
 use Rattle.x86_64_model.specs.PathMap.{PathMap, entry}
@@ -139,7 +139,7 @@ module _ (L : ℕ) (wanted : ℕ → Bool) (M : PathMap) where
 
     behind : (x : ℕ) → s.position + 4096 ≤ x → x < end → pages_at L wanted M x ≡ []
     behind x from to = none_of_three x (λ level low top. ⊎_elim
-        (λ is. no_page_at x level (ap (λ b. b && is_page wanted level (entry M (path_at L level x))) (not_same (x % span level) 0 (λ z. no_start (subst (λ k. x % span k ≡ 0) is z)))))
+        (λ is. no_page_at x level (ap (λ b. b && is_page wanted level (entry M (path_at L level x))) (ne_eqb (x % span level) 0 (λ z. no_start (subst (λ k. x % span k ≡ 0) is z)))))
         (others x (omega (arith, from)) to level low top) (cases_eq level s.level))
       where
         no_start : x % span s.level ≢ 0

@@ -1,15 +1,18 @@
 -- Words of the pages of a range that change one after another, and what they leave.
-use Rattle.std.proofs.Common.{◌≡◌, ◌≢◌, ◌⊎◌, inl, inr, ⊎_elim, ◌<◌, ◌≤◌, ◌+◌, ◌-◌, ◌==◌, ◌||◌, ℕ, Bool, true, false, List, [], ◌∷◌, ◌++◌, length, map, drop, refl, sym, ap, ◌∙◌, subst, arith, eqb-true, Some, IsSome}
+use Rattle.std.proofs.Common.{◌≡◌, ◌≢◌, ◌⊎◌, inl, inr, ⊎_elim, ◌<◌, ◌≤◌, ◌+◌, ◌-◌, ◌*◌, ◌/◌, ◌==◌, ◌&&◌, ◌||◌, ℕ, Bool, true, false, List, [], ◌∷◌, ◌++◌, length, map, drop, Result, Ok, Err, refl, sym, ap, ◌∙◌, subst, arith, eqb-true, Some, IsSome}
+use Rattle.std.proofs.lemmas.Bool.{cases_eq, cases_lt}
 use Rattle.std.proofs.lemmas.List.{map-append, take-append-drop}
-use Rattle.x86_64_live.proofs.PageSpots.{path_up, way_reads}
+use Rattle.x86_64_live.proofs.PageSpots.{only_here, path_same, path_up, way_reads}
 use Rattle.x86_64_mappers.specs.Layouts.{direct_at}
-use Rattle.x86_64_live.specs.PageRanges.{PageEntry, ExchangesPages, exchange_of, is_page}
-use Rattle.x86_64_live.specs.private.RangeSteps.{AreAlikeFrom, HasNoPage, IsFirst, IsOnWay, IsSpot, KeepPages, wanted_by}
+use Rattle.x86_64_live.specs.PageRanges.{HasNoPage, PageEntry, ExchangesPages, exchange_of, is_page}
+use Rattle.x86_64_live.specs.private.RangeSteps.{AreAlikeFrom, IsFirst, IsFound, IsOnWay, IsSpot, KeepPages, leads_down, wanted_by}
+use Rattle.x86_64_live.specs.declared.ranges.RangeEnd.{RangeEnd}
+use Rattle.x86_64_live.specs.declared.ranges.RangeEnd.TheVariants.{All, More, LargerPage}
 use Rattle.x86_64_live.specs.declared.ranges.search.Spot.{Spot}
 use Rattle.x86_64_live.specs.declared.ranges.search.Wanted.{Wanted}
 use Rattle.x86_64_live.specs.declared.ranges.search.Wanted.TheVariants.{Used, Present}
 use Rattle.x86_64_model.specs.Entry.{used, huge}
-use Rattle.x86_64_model.specs.Hierarchy.{◌laid_in◌, PoolFits, Valid, paths, words}
+use Rattle.x86_64_model.specs.Hierarchy.{◌laid_in◌, MayCleanUp, PoolFits, Valid, paths, words}
 use Rattle.x86_64_model.specs.Laws.EntriesInPlace.{IsInPlace, MayReplace, NamesNoTable, OneChanged, with_word}
 use Rattle.x86_64_model.specs.Laws.Live.{IsLiveAfter}
 use Rattle.x86_64_model.specs.Layout.{Layout}
@@ -19,19 +22,24 @@ use Rattle.x86_64_model.specs.Path.{begins, level_of, path_at, span_size}
 use Rattle.x86_64_model.specs.PathMap.{PathMap, entry, put, table_at}
 use Rattle.x86_64_model.specs.Position.{index, page_path, span, position_count}
 use Rattle.x86_64_model.proofs.Lemmas.Entries.Bits.{used_present}
+use Rattle.x86_64_model.proofs.Lemmas.Hierarchies.Changes.{zero_not_used}
 use Rattle.x86_64_model.proofs.Lemmas.Hierarchies.Trees.{some_is, tree_of_holds, indices_below}
 use Rattle.x86_64_model.proofs.Lemmas.Live.Changed.{entries_may_change}
 use Rattle.x86_64_model.proofs.Lemmas.Live.Placed.{live_tables_fit}
 use Rattle.x86_64_model.proofs.Lemmas.Machines.Writes.{within_words}
+use Rattle.x86_64_model.proofs.Lemmas.Mappings.SpanEnds.{same_number}
 use Rattle.x86_64_model.proofs.Lemmas.Paths.Begins.{begins_on}
 use Rattle.x86_64_model.proofs.Lemmas.Paths.Pages.{length_taken}
-use Rattle.x86_64_model.proofs.Lemmas.Paths.Puts.{entry-put_other}
+use Rattle.x86_64_model.proofs.Lemmas.Paths.Puts.{cases_path, entry-put_other, entry-put_same}
 use Rattle.x86_64_model.proofs.Lemmas.Paths.Spans.{spans_are_intervals}
 use Rattle.x86_64_model.proofs.Lemmas.Walks.Walked.{index_small}
 
 pub wanted_used : (wanted : Wanted) (e : ℕ) → wanted_by wanted e ≡ true → used e ≡ true
 wanted_used Used e is = is
 wanted_used Present e is = used_present e is
+
+pub zero_is_none : (level : ℕ) → is_page used level 0 ≡ false
+zero_is_none level = ap (λ u. u && ((level == 1) || huge 0)) zero_not_used
 
 -- ---- one after another
 
@@ -72,6 +80,13 @@ module _ (L : ℕ) (places : Places) (root : ℕ) (mapping : IsMapping places) (
     pub tables_now : (q : List ℕ) → table_at L root (paths_in n) q ≡ table_at L root (paths_in m) q
     tables_now = live.tables
 
+    pub may_clean_now : (serves : ℕ → Bool) (held : List ℕ) → MayCleanUp (l laid_in m) serves held → MayCleanUp (l laid_in n) serves held
+    may_clean_now serves held may = record {
+      valid = valid_now;
+      serves_tables = λ i q f is. may.serves_tables i q f (sym (tables_now (i ∷ q)) ∙ is);
+      none_held = λ i q f is. may.none_held i q f (sym (tables_now (i ∷ q)) ∙ is);
+    }
+
     pub way_now : (p level frame : ℕ) → IsOnWay L root (paths_in n) p level frame → IsOnWay L root (paths_in m) p level frame
     way_now p level frame way = record { low = way.low; high = way.high; leads = sym (tables_now (path_at L (level + 1) p)) ∙ way.leads }
 
@@ -94,6 +109,12 @@ module _ (L : ℕ) (places : Places) (root : ℕ) (mapping : IsMapping places) (
         page = found.page;
         is = found.is;
       }
+
+      pub found_before : {Levels : Type 0} (end : ℕ) → end ≤ position_count L → 3 ≤ L → (r : Result Spot (RangeEnd Levels)) → IsFound L root wanted (paths_in n) from end r → IsFound L root wanted (paths_in m) from end r
+      found_before end inside three (Ok s) found = first_before end inside three s true found
+      found_before end inside three (Err All) none = none_before end inside three none
+      found_before end inside three (Err (More next)) none = none
+      found_before end inside three (Err (LargerPage next)) found = (found.0, found.1, first_before end inside three found.0 false found.2)
 
     -- ---- a page more
 
@@ -195,3 +216,31 @@ module _ (L : ℕ) (places : Places) (root : ℕ) (mapping : IsMapping places) (
               ap (λ M. entry M (path_at L level x)) one_alone.changed
               ∙ entry-put_other (paths_in n) q (next (entry (paths_in n) q)) (path_at L level x) (apart x level inside after to low top)
               ∙ alike x level (omega (arith, order, after)) to low top
+
+          -- a page whose word becomes 0 is none any more
+          module _ (zero : (e : ℕ) → next e ≡ 0) where
+            same_or_none : (r : List ℕ) → (entry (paths_in k) r ≡ entry (paths_in n) r) ⊎ (entry (paths_in k) r ≡ 0)
+            same_or_none r = ⊎_elim
+                (λ is. inr (ap (λ M. entry M r) one_alone.changed ∙ ap (entry (put (paths_in n) q (next (entry (paths_in n) q)))) is
+                ∙ entry-put_same (paths_in n) q (next (entry (paths_in n) q)) ∙ zero (entry (paths_in n) q)))
+                (λ other. inl (ap (λ M. entry M r) one_alone.changed ∙ entry-put_other (paths_in n) q (next (entry (paths_in n) q)) r other))
+                (cases_path r q)
+
+            still_none : (r : List ℕ) (level : ℕ) → is_page used level (entry (paths_in n) r) ≡ false → is_page used level (entry (paths_in k) r) ≡ false
+            still_none r level none = ⊎_elim (λ same. ap (is_page used level) same ∙ none) (λ gone. ap (is_page used level) gone ∙ zero_is_none level) (same_or_none r)
+
+            here_none : (x : ℕ) → x / span s.level ≡ s.position / span s.level → is_page used s.level (entry (paths_in k) (path_at L s.level x)) ≡ false
+            here_none x same =
+                ap (λ r. is_page used s.level (entry (paths_in k) r)) (path_same L s.level s.position x spot.way.low spot.way.high same)
+                ∙ ap (λ M. is_page used s.level (entry M q)) one_alone.changed
+                ∙ ap (is_page used s.level) (entry-put_same (paths_in n) q (next (entry (paths_in n) q)) ∙ zero (entry (paths_in n) q)) ∙ zero_is_none s.level
+
+            pub none_more : 3 ≤ L → leads_down s.level s.word ≡ false → s.position / span s.level * span s.level ≡ s.position → (from : ℕ)
+                → HasNoPage L used (paths_in n) from s.position → HasNoPage L used (paths_in k) from (s.position + span s.level)
+            none_more three ends starts from none x level after to low top = ⊎_elim
+                (λ less. still_none (path_at L level x) level (none x level after less low top))
+                (λ least. let same = same_number s.level s.position x (omega (arith, starts, least)) (omega (arith, starts, to)) in ⊎_elim
+                (λ is. subst (λ v. is_page used v (entry (paths_in k) (path_at L v x)) ≡ false) (sym is) (here_none x same))
+                (λ other. still_none (path_at L level x) level (only_here L (words (l laid_in n)) root (paths_in n) valid_now.valid s spot ends x same used zero_not_used level low (omega (arith, top, three)) other))
+                (cases_eq level s.level))
+                (cases_lt x s.position)

@@ -1,15 +1,18 @@
 -- An array of the pages of a range, page by page, and why a range ends.
-use Rattle.std.proofs.Common.{suc, ◌≡◌, ◌≢◌, ◌⊎◌, inl, inr, ⊎_elim, ◌<◌, ◌≤◌, ◌+◌, ◌-◌, ◌*◌, ◌/◌, ◌%◌, ◌==◌, ◌&&◌, ◌||◌, ℕ, Bool, true, false, nat_le, List, [], ◌∷◌, ◌++◌, length, map, drop, set, slice_set, refl, sym, ap, ap₂, ◌∙◌, arith, append_assoc, eqb-true, get_or, not}
-use Rattle.std.proofs.lemmas.Bool.{and_parts, cases_lt, eqb-false, leb-true, leb-false}
+use Rattle.std.proofs.Common.{suc, ◌≡◌, ◌≢◌, ◌⊎◌, inl, inr, ⊎_elim, ◌<◌, ◌≤◌, ◌+◌, ◌-◌, ◌*◌, ◌/◌, ◌%◌, ◌==◌, ◌&&◌, ◌||◌, ℕ, Bool, true, false, nat_le, List, [], ◌∷◌, ◌++◌, length, map, drop, set, slice_set, Err, refl, sym, ap, ap₂, ◌∙◌, subst, arith, append_assoc, eqb-true, get_or, not}
+use Rattle.std.proofs.lemmas.Bool.{and_parts, cases_lt, eqb-false, leb-true, leb-false, ne_eqb}
 use Rattle.std.proofs.lemmas.List.{length-append, length-map, map-append}
-use Rattle.std.proofs.Math.Seq.{set-append_seam, drop-cons}
+use Rattle.std.proofs.Math.Seq.{set-append_seam, drop-cons, drop-nil}
 use Rattle.std.proofs.Math.Nat.{div-add-mod, mod-lt, mul_comm, mul-div_left}
 use Rattle.std.proofs.Math.Bool.{and-false}
-use Rattle.x86_64_live.specs.PageRanges.{PageEntry, AllWhole, ListsPages, StopsAt, is_page, pages_between, told}
-use Rattle.x86_64_live.specs.private.RangeSteps.{HasNoPage, IsFirst, IsSpot, IsWithin, leads_down}
+use Rattle.x86_64_live.specs.DroppedRanges.{EndsAtPage}
+use Rattle.x86_64_live.specs.PageRanges.{HasNoPage, PageEntry, AllWhole, EndsFor, ListsPages, SeesPages, StopsAt, is_page, pages_between, reached, told}
+use Rattle.x86_64_live.specs.private.RangeSteps.{IsFirst, IsFound, IsSpot, IsWithin, leads_down}
 use Rattle.x86_64_live.specs.declared.ranges.PageWord.{PageWord}
+use Rattle.x86_64_live.specs.declared.ranges.RangeEnd.{RangeEnd}
+use Rattle.x86_64_live.specs.declared.ranges.RangeEnd.TheVariants.{All, More, LargerPage}
 use Rattle.x86_64_live.specs.declared.ranges.search.Spot.{Spot}
-use Rattle.x86_64_live.proofs.PageSpots.{path_same, not_same, span_pages}
+use Rattle.x86_64_live.proofs.PageSpots.{none_joined, path_same, span_pages}
 use Rattle.x86_64_live.proofs.PagesBetween.{between_none, between_past, between_split, none_between, none_is_whole, one_between, one_is_whole, whole_joined}
 use Rattle.x86_64_model.specs.Entry.{used, huge}
 use Rattle.x86_64_model.specs.Memory.{Words}
@@ -90,7 +93,7 @@ module _ (L : ℕ) (wanted : ℕ → Bool) (M : PathMap) where
             let q = path_at L s.level s.position in
             let long : length q ≡ L + 1 - s.level = length_taken s.position (L + 1 - s.level) L (let low = spot.way.low in omega (arith, low)) in
             let plain : huge s.word ≡ false = sym (ap huge spot.reads) ∙ valid.none_huge q (let high = spot.way.high in omega (arith, long, more, high)) in
-            let none : ((s.level == 1) || huge s.word) ≡ false = ap₂ (λ a b. a || b) (not_same s.level 1 (λ one. omega (arith, one, more))) plain in
+            let none : ((s.level == 1) || huge s.word) ≡ false = ap₂ (λ a b. a || b) (ne_eqb s.level 1 (λ one. omega (arith, one, more))) plain in
             ap (λ b. wanted s.word && b) none ∙ and-false (wanted s.word)
 
     module _ (first last : ℕ) (whole : first % 4096 ≡ 0) (last_whole : last % 4096 ≡ 0) (before : List PageWord) (p count : ℕ) (after : List PageWord)
@@ -209,6 +212,9 @@ module _ (L : ℕ) (wanted : ℕ → Bool) (M : PathMap) where
             same = between_split L wanted M first p s.position within.from found.after whole within.aligned
                 ∙ ap (λ xs. pages_between L wanted M first p ++ xs) (none_between L wanted M p s.position found.after found.none) ∙ append_none (pages_between L wanted M first p)
 
+        pub whole_more : AllWhole L wanted M first next
+        whole_more = whole_joined L wanted M first s.position next from_first (omega arith) here_listed.whole (one_is_whole L wanted M T root valid three zero_not s found.spot ends top found.page starts)
+
         pub listed_more : count < length before → (array : List PageWord) → array ≡ slice_set after count (told L this)
             → ListsPages L wanted M first next (count + 1) before array
         listed_more room array set_is =
@@ -221,8 +227,52 @@ module _ (L : ℕ) (wanted : ℕ → Bool) (M : PathMap) where
                   ∙ sym (append_assoc (map (told L) xs) (told L this ∷ []) (drop (suc count) before))
                   ∙ ap (λ ys. ys ++ drop (suc count) before) (sym (map-append (told L) xs (this ∷ [])))
                   ∙ ap₂ (λ ys n. map (told L) ys ++ drop n before) (sym pages_more) (let e : suc count ≡ count + 1 = omega arith in e);
-              whole = whole_joined L wanted M first s.position next from_first (omega arith) here_listed.whole (one_is_whole L wanted M T root valid three zero_not s found.spot ends top found.page starts);
+              whole = whole_more;
             }
           where
             PageWordNone : PageWord
             PageWordNone = record { page = 0; size = 0; word = 0 }
+
+    -- ---- why a range ends, by a search that found no page to go on with
+
+    module _ (Levels : Type 0) (first last : ℕ) (whole : first % 4096 ≡ 0) (last_whole : last % 4096 ≡ 0) (before : List PageWord) (p count : ℕ) (after : List PageWord)
+        (within : IsWithin first (last + 4096) p) (listed : ListsPages L wanted M first p count before after) where
+      pub ends_listed : (end : RangeEnd Levels) → IsFound L root wanted M p (last + 4096) (Err end) → SeesPages L wanted M first last before after (record { count = count; end = end })
+      ends_listed All none = record { listed = listed_all first whole before p (last + 4096) count after within none listed; end = tt }
+      ends_listed (More next) none = absurd none
+      ends_listed (LargerPage next) found =
+          let stop = stops_larger first last whole last_whole before p count after within listed found.0 false found.2 refl in
+          subst (λ n. SeesPages {Levels = Levels} L wanted M first last before after (record { count = count; end = LargerPage n })) found.1 (record { listed = stop.0; end = stop.1 })
+
+      pub pages_reached : (end : RangeEnd Levels) → IsFound L root wanted M p (last + 4096) (Err end) → pages_between L wanted M first p ≡ pages_between L wanted M first (reached last end)
+      pages_reached All none = same_all first whole before p (last + 4096) within none
+      pages_reached (More next) none = absurd none
+      pages_reached (LargerPage next) found = let s = found.0 in let is = found.2 in
+          same_up first whole before p s.position within.from is.after within.aligned is.none ∙ ap (pages_between L wanted M first) found.1
+
+    -- pages that go into no array
+
+    pub listed_alone : (first p : ℕ) → AllWhole L wanted M first p → ListsPages L wanted M first p (length (pages_between L wanted M first p)) [] (map (told L) (pages_between L wanted M first p))
+    listed_alone first p all = let pages = pages_between L wanted M first p in record {
+      number = refl;
+      array = sym (ap (λ ys. map (told L) pages ++ ys) (drop-nil (length pages)) ∙ append_none (map (told L) pages));
+      whole = all;
+    }
+
+    module _ (Levels : Type 0) (first last : ℕ) (whole : first % 4096 ≡ 0) (last_whole : last % 4096 ≡ 0) (p : ℕ) (within : IsWithin first (last + 4096) p) (all : AllWhole L wanted M first p) where
+      at_page : (places count : ℕ) (end : RangeEnd Levels) → IsFound L root wanted M p (last + 4096) (Err end) → EndsFor L wanted M first last places count end → EndsAtPage L wanted M first last end
+      at_page places count All none is = tt
+      at_page places count (More next) none is = none
+      at_page places count (LargerPage next) found is = is
+
+      pub ends_alone : (end : RangeEnd Levels) → IsFound L root wanted M p (last + 4096) (Err end) → AllWhole L wanted M first (reached last end) × EndsAtPage L wanted M first last end
+      ends_alone end found =
+          let pages = pages_between L wanted M first p in
+          let sees = ends_listed Levels first last whole last_whole [] p (length pages) (map (told L) pages) within (listed_alone first p all) end found in
+          (sees.listed.whole, at_page 0 (length pages) end found sees.end)
+
+    pub none_reached : (Levels : Type 0) (first last p : ℕ) → HasNoPage L wanted M first p → (end : RangeEnd Levels) → IsFound L root wanted M p (last + 4096) (Err end) → HasNoPage L wanted M first (reached last end)
+    none_reached Levels first last p before All none = none_joined L T root M valid wanted first p (last + 4096) before none
+    none_reached Levels first last p before (More next) none = absurd none
+    none_reached Levels first last p before (LargerPage next) found =
+        subst (HasNoPage L wanted M first) found.1 (none_joined L T root M valid wanted first p found.0.position before found.2.none)

@@ -3,6 +3,7 @@ pub mod PreparedMaps
 pub mod Prepares
 pub mod PageRanges
 pub mod Parts
+pub mod DroppedRanges
 pub mod WouldAnswer
 pub mod private
 pub use Rattle.x86_64_model.specs.Entry
@@ -11,6 +12,7 @@ pub use Rattle.x86_64_model.specs.Layout
 pub use Rattle.x86_64_model.specs.Live
 pub use Rattle.x86_64_model.specs.Hierarchy
 pub use Rattle.x86_64_model.specs.MapRule
+pub use Rattle.x86_64_mappers.specs.CleanUps
 pub use Rattle.x86_64_mappers.specs.Layouts
 pub use Rattle.x86_64_mappers.specs.PageAnswers
 pub use Rattle.x86_64_mappers.specs.Supplies

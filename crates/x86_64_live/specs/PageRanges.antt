@@ -1,5 +1,5 @@
 -- Ranges of pages of all sizes: which entries of pages lie in them, and what is done with these.
-use Rattle.std.specs.Prelude.{◌≡◌, ◌⊎◌, ◌<◌, ◌≤◌, ◌+◌, ◌*◌, ◌/◌, ◌%◌, ◌==◌, ◌&&◌, ◌||◌, ◌++◌, ℕ, Bool, true, cond, List, [], ◌∷◌, length, map, drop, Option, Some, None, bit_and}
+use Rattle.std.specs.Prelude.{◌≡◌, ◌⊎◌, ◌<◌, ◌≤◌, ◌+◌, ◌*◌, ◌/◌, ◌%◌, ◌==◌, ◌&&◌, ◌||◌, ◌++◌, ℕ, Bool, true, false, cond, List, [], ◌∷◌, length, map, drop, Option, Some, None, bit_and}
 use Rattle.std.specs.List.{filter_map, flat_map}
 use Rattle.x86_64_live.specs.declared.ranges.PageWord.{PageWord}
 use Rattle.x86_64_live.specs.declared.ranges.RangeEnd.{RangeEnd}
@@ -52,6 +52,10 @@ abbrev pub AllWhole : (L : ℕ) → (wanted : ℕ → Bool) → PathMap → (fir
 AllWhole L wanted M first next = (x level : ℕ) → first ≤ x → x < next → 1 ≤ level → level ≤ 3
     → is_page wanted level (entry M (path_at L level x)) ≡ true → LiesIn first next level x
 
+-- No position from p up to but excluding q is one of a wanted page.
+abbrev pub HasNoPage : (L : ℕ) → (wanted : ℕ → Bool) → PathMap → (p q : ℕ) → Type 0
+HasNoPage L wanted M p q = (x level : ℕ) → p ≤ x → x < q → 1 ≤ level → level ≤ 3 → is_page wanted level (entry M (path_at L level x)) ≡ false
+
 -- ---- why a range ends
 
 -- The position up to which a range from `first` to the page at `last` came.
@@ -83,14 +87,19 @@ pub record StopsAt (L : ℕ) (wanted : ℕ → Bool) (M : PathMap) (first last n
   pub page : is_page wanted level (entry M (path_at L level next)) ≡ true
   pub is : Relation level
 
+-- At the position `next` of the range from `first` to the page at `last` there is a wanted page that is larger and lies only partly in
+-- the range.
+abbrev pub StopsAtLarger : (L : ℕ) → (wanted : ℕ → Bool) → PathMap → (first last next : ℕ) → Type 0
+StopsAtLarger L wanted M first last next =
+    StopsAt L wanted M first last next (λ level. (next / span level * span level < first) ⊎ (last + 4096 < next / span level * span level + span level))
+
 -- Why a range ends, with so many places in the array and so many pages in it: all pages are there, or the array is full and the next
 -- page lies in the range, or the next page is larger and lies only partly in the range.
 abbrev pub EndsFor : {Levels : Type 0} → (L : ℕ) → (wanted : ℕ → Bool) → PathMap → (first last places count : ℕ) → RangeEnd Levels → Type 0
 EndsFor L wanted M first last places count All = Unit {0}
 EndsFor L wanted M first last places count (More next) = (count ≡ places)
     × StopsAt L wanted M first last next (λ level. (next % span level ≡ 0) × (next + span level ≤ last + 4096))
-EndsFor L wanted M first last places count (LargerPage next) =
-    StopsAt L wanted M first last next (λ level. (next / span level * span level < first) ⊎ (last + 4096 < next / span level * span level + span level))
+EndsFor L wanted M first last places count (LargerPage next) = StopsAtLarger L wanted M first last next
 
 -- ---- what a range sees and changes
 
@@ -120,8 +129,7 @@ abbrev pub ExchangesPages : Layout → (next : ℕ → ℕ) → List PageEntry �
 ExchangesPages l next pages m n = (serves : ℕ → Bool) (pool : List ℕ) → PoolFits (l laid_in m) serves pool
     → IsLiveAfter l serves pool m (map (exchange_of l.levels next) pages) n
 
--- Masks that change flags alone: the bits that are kept have HUGE_PAGE and all bits of the address, and those that are set have none
--- of these.
-pub record AreFlagMasks (keep set : ℕ) : Type 0 where
-  pub kept : bit_and keep 0x000f_ffff_ffff_f080 ≡ 0x000f_ffff_ffff_f080
-  pub unset : bit_and set 0x000f_ffff_ffff_f080 ≡ 0
+-- Whether masks change flags alone: the bits that are kept have HUGE_PAGE and all bits of the address, and those that are set have
+-- none of these.
+abbrev pub are_flag_masks : (keep set : ℕ) → Bool
+are_flag_masks keep set = (bit_and keep 0x000f_ffff_ffff_f080 == 0x000f_ffff_ffff_f080) && (bit_and set 0x000f_ffff_ffff_f080 == 0)

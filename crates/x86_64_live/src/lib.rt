@@ -13,5 +13,6 @@ pub use map::{PageMap, map_or_nothing, may_map};
 pub use parts::{SplitError, are_parts, joined_word, may_split, write_parts};
 pub use preparation::{may_prepare, prepare};
 pub use ranges::{
-    PageWord, RangeEnd, RangeSeen, RangeStop, are_flag_masks, change_range, list_range, take_range,
+    PageWord, RangeEnd, RangeSeen, RangeStop, are_flag_masks, change_range, drop_range, list_range,
+    take_range,
 };

@@ -1,7 +1,7 @@
 //! Ranges of pages of all sizes
-ghost use Rattle.std.specs.Prelude.{◌≡◌, ◌<◌, ◌≤◌, ◌+◌, ◌%◌, ◌↔◌, IsSome, IsTrue, option_map};
+ghost use Rattle.std.specs.Prelude.{◌≡◌, ◌<◌, ◌≤◌, ◌+◌, ◌%◌, true, IsSome, option_map};
 ghost use Rattle.x86_64_mappers.specs.Layouts.{direct_at};
-ghost use Rattle.x86_64_live.specs.PageRanges.{goes_on_at, pages_between, reached, stop_of, told, AreFlagMasks, ExchangesPages, SeesPages};
+ghost use Rattle.x86_64_live.specs.PageRanges.{are_flag_masks, goes_on_at, pages_between, reached, stop_of, told, ExchangesPages, SeesPages};
 ghost use Rattle.x86_64_live.specs.private.RangeSteps.{wanted_by, KeepPages};
 ghost use Rattle.x86_64_model.specs.Entry.{present, used};
 ghost use Rattle.x86_64_model.specs.Hierarchy.{◌laid_in◌, Valid, paths};
@@ -10,9 +10,11 @@ ghost use Rattle.x86_64_model.specs.Live.{by_masks};
 ghost use Rattle.x86_64_model.specs.Memory.{words_of};
 ghost use Rattle.x86_64_model.specs.Position.{index, position_count, raw};
 
+mod drops;
 mod search;
 
-use search::{Cursor, Found, Spot, Wanted, next_page};
+pub use drops::drop_range;
+use search::{Cursor, Spot, Wanted, next_page};
 use x86_64_addr::addr::VirtAddrIn;
 use x86_64_addr::level_count::LevelCount;
 use x86_64_page::frame::PhysFrame;
@@ -118,35 +120,21 @@ pub fn list_range<L: LevelCount, T: TableMemory, P: PageTableFrameMapping>(
         (paths (direct_at L.LEVELS (P.places mapping.now) root laid_in T.tables memory.now))
         range.start range.end pages.old pages.new result }
 {
-    let end = range.end.place() + 4096;
+    let end = end_of(range);
     let mut cursor = Cursor::at_root::<L>(range.start.place(), root);
     let mut count = 0;
-    'pages: loop {
-        match next_page::<L, T, P>(memory, mapping, root, end, Wanted::Used, &cursor) {
-            Found::All => {
-                return RangeSeen {
-                    count,
-                    end: RangeEnd::All,
-                };
-            }
-            Found::LargerPage(spot) => {
-                return RangeSeen {
-                    count,
-                    end: RangeEnd::LargerPage(PageIn::at(spot.position)),
-                };
-            }
-            Found::Page(spot) => {
-                if count == pages.len() {
-                    return RangeSeen {
-                        count,
-                        end: RangeEnd::More(PageIn::at(spot.position)),
-                    };
-                }
-                pages[count] = word_told::<L>(&spot);
-                count += 1;
-                cursor = spot.past::<L>(root);
-            }
+    loop {
+        let spot = match next_page::<L, T, P>(memory, mapping, root, end, Wanted::Used, cursor) {
+            Ok(spot) => spot,
+            Err(end) => return RangeSeen { count, end },
+        };
+        if count == pages.len() {
+            let end = RangeEnd::More(PageIn::at(spot.position));
+            return RangeSeen { count, end };
         }
+        pages[count] = word_told::<L>(&spot);
+        count += 1;
+        cursor = spot.past::<L>(root);
     }
 }
 
@@ -203,7 +191,7 @@ pub fn take_range<L: LevelCount, T: TableMemory, P: PageTableFrameMapping>(
 
 /// Returns true if masks change flags alone: `keep` has `HUGE_PAGE` and all bits of the address, 12 to 51, and `set` has none of them.
 pub fn are_flag_masks(keep: u64, set: u64) -> bool
-    ensures { IsTrue result ↔ AreFlagMasks keep set }
+    ensures { result ≡ are_flag_masks keep set }
 {
     keep & KIND_BITS == KIND_BITS && set & KIND_BITS == 0
 }
@@ -224,7 +212,7 @@ pub fn change_range<L: LevelCount, T: TableMemory, P: PageTableFrameMapping>(
     pages: &mut [PageWord],
 ) -> RangeSeen<L>
     requires valid { Valid (direct_at L.LEVELS (P.places mapping.now) root laid_in T.tables memory.old) }
-    requires masks { AreFlagMasks keep set }
+    requires masks { are_flag_masks keep set ≡ true }
     ensures sees { SeesPages L.LEVELS present
         (paths (direct_at L.LEVELS (P.places mapping.now) root laid_in T.tables memory.old))
         range.start range.end pages.old pages.new result }
@@ -271,33 +259,19 @@ fn change_pages<L: LevelCount, T: TableMemory, P: PageTableFrameMapping>(
     let end = end_of(range);
     let mut cursor = Cursor::at_root::<L>(range.start.place(), root);
     let mut count = 0;
-    'pages: loop {
-        match next_page::<L, T, P>(memory, mapping, root, end, wanted, &cursor) {
-            Found::All => {
-                return RangeSeen {
-                    count,
-                    end: RangeEnd::All,
-                };
-            }
-            Found::LargerPage(spot) => {
-                return RangeSeen {
-                    count,
-                    end: RangeEnd::LargerPage(PageIn::at(spot.position)),
-                };
-            }
-            Found::Page(spot) => {
-                if count == pages.len() {
-                    return RangeSeen {
-                        count,
-                        end: RangeEnd::More(PageIn::at(spot.position)),
-                    };
-                }
-                pages[count] = word_told::<L>(&spot);
-                count += 1;
-                set_word_at(memory, mapping, &spot, spot.word & masks.keep | masks.set);
-                cursor = spot.past::<L>(root);
-            }
+    loop {
+        let spot = match next_page::<L, T, P>(memory, mapping, root, end, wanted, cursor) {
+            Ok(spot) => spot,
+            Err(end) => return RangeSeen { count, end },
+        };
+        if count == pages.len() {
+            let end = RangeEnd::More(PageIn::at(spot.position));
+            return RangeSeen { count, end };
         }
+        pages[count] = word_told::<L>(&spot);
+        count += 1;
+        set_word_at(memory, mapping, &spot, spot.word & masks.keep | masks.set);
+        cursor = spot.past::<L>(root);
     }
 }
 

@@ -1,9 +1,9 @@
 -- The search for the next page of a range, from table to table.
-use Rattle.std.specs.Prelude.{◌≡◌, ◌≢◌, ◌⊎◌, ◌<◌, ◌≤◌, ◌+◌, ◌-◌, ◌%◌, ◌==◌, ◌&&◌, nat_le, ℕ, Bool, true, false, not, cond, Option, Some, None}
-use Rattle.x86_64_live.specs.PageRanges.{is_page}
+use Rattle.std.specs.Prelude.{◌≡◌, ◌≢◌, ◌⊎◌, ◌<◌, ◌≤◌, ◌+◌, ◌-◌, ◌%◌, ◌==◌, ◌&&◌, nat_le, ℕ, Bool, true, false, not, cond, Option, Some, None, Result, Ok, Err}
+use Rattle.x86_64_live.specs.PageRanges.{HasNoPage, is_page}
+use Rattle.x86_64_live.specs.declared.ranges.RangeEnd.{RangeEnd}
+use Rattle.x86_64_live.specs.declared.ranges.RangeEnd.TheVariants.{All, More, LargerPage}
 use Rattle.x86_64_live.specs.declared.ranges.search.Cursor.{Cursor}
-use Rattle.x86_64_live.specs.declared.ranges.search.Found.{Found}
-use Rattle.x86_64_live.specs.declared.ranges.search.Found.TheVariants as found
 use Rattle.x86_64_live.specs.declared.ranges.search.Spot.{Spot}
 use Rattle.x86_64_live.specs.declared.ranges.search.Wanted.{Wanted}
 use Rattle.x86_64_live.specs.declared.ranges.search.Wanted.TheVariants.{Used, Present}
@@ -48,10 +48,6 @@ LooksDown L places m c s = (root : ℕ) → let h = direct_at L places root laid
 abbrev pub StartsAt : (L root frame level : ℕ) → Cursor → Type 0
 StartsAt L root frame level c = ((c.frame ≡ root) × (c.level ≡ L)) ⊎ ((c.frame ≡ frame) × ((c.level ≡ level) × (index level c.position ≢ 0)))
 
--- No position from p up to but excluding q is one of a wanted page.
-abbrev pub HasNoPage : (L : ℕ) → (wanted : ℕ → Bool) → PathMap → (p q : ℕ) → Type 0
-HasNoPage L wanted M p q = (x level : ℕ) → p ≤ x → x < q → 1 ≤ level → level ≤ 3 → is_page wanted level (entry M (path_at L level x)) ≡ false
-
 -- The first wanted page from a position on, with a position before `end`, is at this spot, to which the relation holds.
 pub record IsFirst (L root : ℕ) (wanted : ℕ → Bool) (M : PathMap) (from end : ℕ) (s : Spot) (relation : Bool) : Type 0 where
   pub after : from ≤ s.position
@@ -62,11 +58,12 @@ pub record IsFirst (L root : ℕ) (wanted : ℕ → Bool) (M : PathMap) (from en
   pub page : is_page wanted s.level s.word ≡ true
   pub is : (s.position % span s.level == 0) && nat_le (s.position + span s.level) end ≡ relation
 
--- What a search from a position on finds, up to but excluding `end`.
-abbrev pub IsFound : (L root : ℕ) → (wanted : ℕ → Bool) → PathMap → (from end : ℕ) → Found → Type 0
-IsFound L root wanted M from end found.All = HasNoPage L wanted M from end
-IsFound L root wanted M from end (found.Page s) = IsFirst L root wanted M from end s true
-IsFound L root wanted M from end (found.LargerPage s) = IsFirst L root wanted M from end s false
+-- What a search from a position on finds, up to but excluding `end`: the spot of a page, or why there is none.
+abbrev pub IsFound : {Levels : Type 0} → (L root : ℕ) → (wanted : ℕ → Bool) → PathMap → (from end : ℕ) → Result Spot (RangeEnd Levels) → Type 0
+IsFound L root wanted M from end (Ok s) = IsFirst L root wanted M from end s true
+IsFound L root wanted M from end (Err All) = HasNoPage L wanted M from end
+IsFound L root wanted M from end (Err (More next)) = ⊥
+IsFound L root wanted M from end (Err (LargerPage next)) = (s : Spot) × (s.position ≡ next) × IsFirst L root wanted M from end s false
 
 -- The position is one of the range from `first` up to `end`, or `end`, and a multiple of 4KiB. It is `first` if the range is empty.
 pub record IsWithin (first end position : ℕ) : Type 0 where

@@ -7,9 +7,11 @@ ghost use Rattle.x86_64_model.specs.Hierarchy.{◌laid_in◌, Valid, paths};
 ghost use Rattle.x86_64_model.specs.Memory.{word, words_of};
 ghost use Rattle.x86_64_model.specs.Position.{index, span as span_of, position_count};
 
+use super::RangeEnd;
 use x86_64_addr::level_count::LevelCount;
 use x86_64_page::frame::PhysFrame;
-use x86_64_page::page::Size4KiB;
+use x86_64_page::page::{PageIn, Size4KiB};
+use x86_64_page::range::Block;
 use x86_64_tables::page_table::{PageTableEntry, PageTableFlags, has_flag};
 use x86_64_tables::phys_memory::{PageTableFrameMapping, TableMemory, index_of, table_in};
 
@@ -57,17 +59,6 @@ impl Cursor {
             position,
             frame: root,
             level: L::LEVELS,
-        }
-    }
-
-    /// Returns a copy.
-    fn copied(&self) -> Cursor
-        ensures { result ≡ self.now }
-    {
-        Cursor {
-            position: self.position,
-            frame: self.frame,
-            level: self.level,
         }
     }
 
@@ -187,17 +178,6 @@ impl Spot {
     }
 }
 
-/// What a search finds.
-#[derive(Clone, Copy)]
-pub(super) enum Found {
-    /// No page.
-    All,
-    /// A page that is in the range.
-    Page(Spot),
-    /// A larger page that is only partly in the range.
-    LargerPage(Spot),
-}
-
 /// Looks down from a cursor's table to the entry that names no table.
 fn look_down<T: TableMemory, P: PageTableFrameMapping>(
     memory: &T,
@@ -215,42 +195,43 @@ fn look_down<T: TableMemory, P: PageTableFrameMapping>(
     ensures spot { LooksDown levels (P.places mapping.now) (T.tables memory.now) from.now result }
 {
     let mut spot = Spot::read(memory, mapping, from);
-    'down: while let Some(below) = spot.below() {
+    while let Some(below) = spot.below() {
         spot = Spot::read(memory, mapping, &below);
     }
     spot
 }
 
-/// Searches for the first wanted page from a cursor on, up to but excluding the position `end`.
+/// Returns the first wanted page from a cursor on, up to but excluding the position `end`, or why there is none: it is a larger one that
+/// lies only partly before `end` or from the cursor on, or there is no page at all.
 pub(super) fn next_page<L: LevelCount, T: TableMemory, P: PageTableFrameMapping>(
     memory: &T,
     mapping: &P,
     root: PhysFrame<Size4KiB>,
     end: u64,
     wanted: Wanted,
-    from: &Cursor,
-) -> Found
+    from: Cursor,
+) -> Result<Spot, RangeEnd<L>>
     requires valid { Valid (direct_at L.LEVELS (P.places mapping.now) root laid_in T.tables memory.now) }
     requires inside { end ≤ position_count L.LEVELS }
-    requires aligned { from.now.position % 4096 ≡ 0 }
-    requires way { from.now.position < end → IsOnWay L.LEVELS root
+    requires aligned { from.position % 4096 ≡ 0 }
+    requires way { from.position < end → IsOnWay L.LEVELS root
         (paths (direct_at L.LEVELS (P.places mapping.now) root laid_in T.tables memory.now))
-        from.now.position from.now.level from.now.frame }
+        from.position from.level from.frame }
     ensures { IsFound L.LEVELS root (wanted_by wanted)
         (paths (direct_at L.LEVELS (P.places mapping.now) root laid_in T.tables memory.now))
-        from.now.position end result }
+        from.position end result }
 {
-    let mut cursor = from.copied();
-    'holes: while cursor.position < end {
+    let mut cursor = from;
+    while cursor.position < end {
         let spot = look_down(memory, mapping, L::LEVELS, &cursor);
         if spot.is_page(wanted) {
             return if spot.is_whole(end) {
-                Found::Page(spot)
+                Ok(spot)
             } else {
-                Found::LargerPage(spot)
+                Err(RangeEnd::LargerPage(PageIn::at(spot.position)))
             };
         }
         cursor = spot.past::<L>(root);
     }
-    Found::All
+    Err(RangeEnd::All)
 }

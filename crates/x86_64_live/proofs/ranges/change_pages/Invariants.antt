@@ -7,8 +7,8 @@ use Rattle.x86_64_model.specs.Live.{by_masks}
 use Rattle.x86_64_live.proofs.ranges.change_pages.Given as goal
 
 -- the pages before the cursor are in the array, and their words have changed; behind it nothing has
-abbrev pub invariant-pages : goal.invariant-pages
-invariant-pages g l =
+abbrev pub invariant-loop-spot : goal.invariant-loop-spot
+invariant-loop-spot g l =
     let L = g.L.LevelCount.LEVELS in
     let layout = direct_at L (g.P.PageTableFrameMapping.places l.mapping) l.root in
     let old = g.T.TableMemory.tables l.initial.memory in let new = g.T.TableMemory.tables l.memory in
@@ -20,5 +20,5 @@ invariant-pages g l =
     × AreAlikeFrom L M (paths (layout laid_in new)) l.cursor.position
     × (g.T.TableMemory.lent l.memory ≡ g.T.TableMemory.lent l.initial.memory)
 
-abbrev pub decreases-pages : goal.decreases-pages
-decreases-pages g l = l.end - l.cursor.position
+abbrev pub decreases-loop-spot : goal.decreases-loop-spot
+decreases-loop-spot g l = l.end - l.cursor.position
