@@ -9,6 +9,7 @@ use crate::operation::{Operation, enter};
 use crate::pool::{PoolStep, Stepped, with_pool};
 use crate::status;
 use crate::word_ranges::status_of;
+use x86_64::structures::paging::mapper::PageTableFrameMapping;
 use x86_64::structures::paging::{PageIn, PageTable, Size4KiB};
 use x86_64::{FrameStore, LevelCount, OwnFrames, TableMemory};
 use x86_64_live::{RangeEnd, drop_range};
@@ -91,10 +92,10 @@ impl Operation for RangeDrop {
         DropsPages h pool (position_of h.layout.levels new.first) (position_of h.layout.levels new.last)
         after rest dropped.out.status dropped.out.next) };
 
-    fn execute<L: LevelCount, T: TableMemory>(
+    fn execute<L: LevelCount, T: TableMemory, P: PageTableFrameMapping + Copy>(
         &self,
         memory: &mut T,
-        located: Located,
+        located: Located<P>,
         array: &mut [u64],
     ) -> Result<Stepped<Dropped>, u32> {
         if array.len() < self.free_count {
@@ -129,10 +130,10 @@ impl<L: LevelCount> PoolStep<L> for PagesDropped<L> {
     ghost does = { λ pages h pool after rest dropped.
         DropsPages h pool pages.first pages.last after rest dropped.status dropped.next };
 
-    fn take<T: TableMemory, F: FrameStore>(
+    fn take<T: TableMemory, P: PageTableFrameMapping + Copy, F: FrameStore>(
         &self,
         memory: &mut T,
-        located: Located,
+        located: Located<P>,
         frames: &mut F,
         _free_count: usize,
     ) -> Dropped {

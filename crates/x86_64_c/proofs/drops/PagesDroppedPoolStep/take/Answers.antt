@@ -1,8 +1,6 @@
 use Rattle.x86_64_model.proofs.Lemmas.Machines.Giving.{giving_from}
 use Rattle.x86_64_mappers.specs.Layouts.{direct_at}
-use Rattle.x86_64_tables.specs.Shifted.{shifted_is_mapping}
 use Rattle.x86_64.proofs.CleanUpSteps.{held_may_clean_up}
-use Rattle.x86_64_c.specs.Arguments.{places_of}
 use Rattle.x86_64_c.proofs.Dropped.{dropped}
 use Rattle.x86_64_c.proofs.EntryChanges.{plain}
 use Rattle.x86_64_c.proofs.drops.PagesDroppedPoolStep.take.Goals as goal
@@ -12,7 +10,7 @@ drop_range-requires g c = held_may_clean_up _ _ _ _ (g.met.F.FrameStore.one_list
 
 pub returns-clause-does : goal.returns-clause-does
 returns-clause-does g c =
-    let l = direct_at g.L.LevelCount.LEVELS (places_of c.args.located) c.args.located.root in
+    let l = direct_at g.L.LevelCount.LEVELS (g.P.PageTableFrameMapping.places c.args.located.mapping) c.args.located.root in
     dropped l _ _ (g.T.TableMemory.tables c.args.memory.now) _ c.args.self.now.first c.args.self.now.last _ _ (g.met.F.FrameStore.one_list _) (g.met.F.FrameStore.one_list _) plain
-    (giving_from _ g.met.F.FrameDeallocator.take_back_rearranges) (shifted_is_mapping c.args.located.mapping.first) c.requires.fits c.drop_range-end.result
+    (giving_from _ g.met.F.FrameDeallocator.take_back_rearranges) (g.met.P.PageTableFrameMapping.is_mapping c.args.located.mapping) c.requires.fits c.drop_range-end.result
     (rw (c.range_inclusive-range.ensures.start, c.range_inclusive-range.ensures.end) at c.drop_range-end.ensures.drops) _ _ c.of.ensures.status c.of.ensures.next
