@@ -8,7 +8,6 @@
 mod accesses;
 mod address_spaces;
 mod arguments;
-mod below_root;
 mod changes;
 mod drops;
 mod entries;

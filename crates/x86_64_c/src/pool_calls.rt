@@ -7,6 +7,8 @@ ghost use Rattle.x86_64_c.specs.PoolCalls as calls;
 ghost use Rattle.x86_64_c.specs.private.Pools as pools;
 ghost use Rattle.x86_64_tables.specs.MapperAnswers.{map_refusal};
 
+mod below_root;
+
 use crate::arguments::{AnyPage, Hierarchy, Located, MapRequest, frame_at, page_at, page_of};
 use crate::operation::{Operation, enter};
 use crate::pool::{PoolStep, Stepped, with_pool};

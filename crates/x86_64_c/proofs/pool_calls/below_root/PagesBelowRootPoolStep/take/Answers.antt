@@ -5,7 +5,7 @@ use Rattle.x86_64_mappers.specs.Layouts.{direct_at}
 use Rattle.x86_64.proofs.CleanUpSteps.{held_may_clean_up}
 use Rattle.x86_64_c.proofs.BelowRootSteps.{cleaned_below}
 use Rattle.x86_64_c.proofs.EntryChanges.{of}
-use Rattle.x86_64_c.proofs.below_root.PagesBelowRootPoolStep.take.Goals as goal
+use Rattle.x86_64_c.proofs.pool_calls.below_root.PagesBelowRootPoolStep.take.Goals as goal
 
 pub clean_up_below_root-requires : goal.clean_up_below_root-requires
 clean_up_below_root-requires g c =

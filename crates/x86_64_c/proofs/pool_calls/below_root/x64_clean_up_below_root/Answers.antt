@@ -1,5 +1,5 @@
 use Rattle.x86_64_c.proofs.BelowRootSteps.{executes_below, refuses_below}
-use Rattle.x86_64_c.proofs.below_root.x64_clean_up_below_root.Goals as goal
+use Rattle.x86_64_c.proofs.pool_calls.below_root.x64_clean_up_below_root.Goals as goal
 
 pub returns-in-Ok : goal.returns-in-Ok
 returns-in-Ok g c =
