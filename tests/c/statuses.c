@@ -150,6 +150,7 @@ enum function {
     UNMAP_RANGE,
     UPDATE_FLAGS_RANGE,
     CLEAN_UP,
+    CLEAN_UP_BELOW_ROOT,
     DROP,
     TAKE_RANGE,
     CHANGE_RANGE,
@@ -162,8 +163,8 @@ static const char *const names[FUNCTIONS] = {
     "x64_page_walk",          "x64_walk",      "x64_entries",      "x64_translate",       "x64_mappings",  "x64_list_range",
     "x64_is_valid",           "x64_pool_fits", "x64_spaces_fit",   "x64_spaces_fit_in",   "x64_access",    "x64_map",
     "x64_map_as_mapper",      "x64_prepare",   "x64_unmap",        "x64_update_flags",    "x64_set_table_flags", "x64_map_range",
-    "x64_unmap_range",        "x64_update_flags_range", "x64_clean_up", "x64_drop",       "x64_take_range", "x64_change_range",
-    "x64_new_space",          "x64_give_up_space",
+    "x64_unmap_range",        "x64_update_flags_range", "x64_clean_up", "x64_clean_up_below_root", "x64_drop", "x64_take_range",
+    "x64_change_range",       "x64_new_space",          "x64_give_up_space",
 };
 
 /* Returns the arguments that rows change. */
@@ -267,6 +268,8 @@ static uint32_t call(enum function function, const struct arguments *a) {
         return x64_update_flags_range(h, tables, n, &page, a->count, a->flags, &world.done);
     case CLEAN_UP:
         return x64_clean_up(h, tables, n, pool, a->capacity, &world.free_count, a->first_page, a->last_page);
+    case CLEAN_UP_BELOW_ROOT:
+        return x64_clean_up_below_root(h, tables, n, pool, a->capacity, &world.free_count, a->first_page, a->last_page);
     case DROP:
         return x64_drop(h, tables, n, pool, a->capacity, &world.free_count, start, last, &world.next);
     case TAKE_RANGE:
@@ -922,7 +925,7 @@ static const struct row change_range[] = {
     ROW("a bad page before bad masks", X64_BAD_PAGE, SET(first_page, 1), SET(keep, 0), SET(flags, 0x1000)),
 };
 
-/* The table that comes back last. */
+/* The table that comes back last, of both clean ups: no entry of the root names it. */
 static const struct row clean_up[] = {
     {"all", X64_OK, {USUAL}, 1, 0, -1, {7}},
     {"the page alone", X64_OK, {SET(first_page, 0xc0000000), SET(last_page, 0xc0000000)}, 1, 0, -1, {7}},
@@ -940,7 +943,7 @@ static const struct row drop_rows[] = {
         SET(last_page, 0x40001000)),
 };
 
-/* Ranges whose tables are freed, of both functions: nothing there, and bad arguments. */
+/* Ranges whose tables are freed, of all functions that free some: nothing there, and bad arguments. */
 static const struct row freed_ranges[] = {
     ROW("all after it", X64_OK, SET(first_page, 0x100000000)),
     ROW("the last page before the first one", X64_OK, SET(first_page, LAST_PAGE), SET(last_page, 0)),
@@ -1342,6 +1345,8 @@ int main(void) {
     TRY(UPDATE_FLAGS_RANGE, update_flags_range);
     TRY(CLEAN_UP, clean_up);
     TRY(CLEAN_UP, freed_ranges);
+    TRY(CLEAN_UP_BELOW_ROOT, clean_up);
+    TRY(CLEAN_UP_BELOW_ROOT, freed_ranges);
     TRY(DROP, drop_rows);
     TRY(DROP, freed_ranges);
     TRY(TAKE_RANGE, word_ranges);
@@ -1376,6 +1381,7 @@ int main(void) {
         [UNMAP_RANGE] = {X64_MORE, X64_BAD_PAGE},
         [UPDATE_FLAGS_RANGE] = {X64_NOT_ALLOWED, X64_BAD_PAGE},
         [CLEAN_UP] = {X64_BAD_ARRAY, X64_BAD_PAGE},
+        [CLEAN_UP_BELOW_ROOT] = {X64_BAD_ARRAY, X64_BAD_PAGE},
         [DROP] = {X64_PARENT_ENTRY_HUGE_PAGE, X64_BAD_ARRAY, X64_BAD_PAGE},
         [TAKE_RANGE] = {X64_MORE, X64_PARENT_ENTRY_HUGE_PAGE, X64_BAD_PAGE},
         [CHANGE_RANGE] = {X64_NOT_ALLOWED, X64_MORE, X64_PARENT_ENTRY_HUGE_PAGE, X64_BAD_PAGE},
