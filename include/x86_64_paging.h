@@ -895,8 +895,8 @@ static inline uint32_t x64_space_new(const x64_space *space, x64_pool *pool, x64
 
 /* x64_give_up_space: puts the root's frame into the pool. Before, take all pages away that aren't
  * below shared entries, and clean up, both of which x64_space_drop does; and no processor uses the
- * root any more. Returns X64_OK;
- * X64_SPACE_IN_USE if an entry that isn't shared isn't 0; X64_BAD_INDICES. */
+ * root any more. Returns X64_OK; X64_SPACE_IN_USE if an entry that isn't shared isn't 0;
+ * X64_BAD_INDICES. */
 X64_NODISCARD
 static inline uint32_t x64_space_give_up(const x64_space *space, x64_pool *pool);
 

@@ -5,8 +5,8 @@ use Rattle.x86_64_c.proofs.Dropped.{dropped}
 use Rattle.x86_64_c.proofs.EntryChanges.{plain}
 use Rattle.x86_64_c.proofs.drops.PagesDroppedPoolStep.take.Goals as goal
 
-pub drop_range-requires : goal.drop_range-requires
-drop_range-requires g c = held_may_clean_up _ _ _ _ (g.met.F.FrameStore.one_list _) c.requires.fits
+pub drop_range-end-requires : goal.drop_range-end-requires
+drop_range-end-requires g c = held_may_clean_up _ _ _ _ (g.met.F.FrameStore.one_list _) c.requires.fits
 
 pub returns-clause-does : goal.returns-clause-does
 returns-clause-does g c =
