@@ -54,8 +54,9 @@
  *                        it were changed after them. The law says this of one entry
  *   marks_are_never_lost a mark is in the entry, or in a word that an exchange has returned since,
  *                        if nothing else changes the word
- *   pages_may_be_split, pages_have_parts, pages_may_be_joined
- *                        see x64_space_split and x64_space_join
+ *   pages_may_be_split, pages_may_be_joined
+ *                        see x64_space_split and x64_space_join. The words of the parts are written
+ *                        and compared by proved functions (x64_write_parts, x64_are_parts)
  *
  *   exchanges_may_happen, flushes_after_calls_are_enough
  *                        if each exchange is followed by the flush that x64_flush_between returns,
