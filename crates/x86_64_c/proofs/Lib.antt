@@ -18,3 +18,4 @@ pub mod FlushCalls
 pub mod WalkBySteps
 pub mod Prepared
 pub mod WordRangesTold
+pub mod PathsRead

@@ -13,6 +13,7 @@ mod flush;
 mod listing;
 mod maps;
 mod operation;
+mod paths;
 mod pool;
 mod pool_calls;
 mod preparations;
