@@ -1227,6 +1227,31 @@ uint32_t x64_access(const x64_hierarchy *hierarchy, x64_table *tables, size_t ta
                     x64_outcome *outcome);
 
 /*
+ * Does what x64_access does without marks, by entries that the caller has read, and reads no table:
+ * by those that the walk to request->address reads through so many levels, from the root's on. So
+ * who loads each word once, as x64_entries_live does while a guest changes its tables, gets what a
+ * processor does that reads these words. Only the words of the entries count, and those behind the
+ * one at which the walk ends mean nothing, nor does request->mark.
+ *
+ * It is proved that the status and *outcome are what x64_access says of any tables in which the
+ * walk reads these words (WritesWherever in crates/x86_64_c/specs/Paths.antt), and of words that no
+ * tables have together what the model of an access makes of them one by one (WritesAlong there).
+ *
+ * Condition: pointers only. The entries may hold anything.
+ *
+ * Returns X64_OK if the access arrives, or one of these. The first two write *outcome, too:
+ *   X64_PAGE_FAULT   if it faults
+ *   X64_NO_TABLE     if the processor reads on in the table that the last entry names
+ *   X64_BAD_ACCESS; X64_BAD_ADDRESS as x64_access
+ *   X64_BAD_ARRAY    if there is no entry, or if there are more than levels
+ *   X64_BAD_LEVELS
+ */
+X64_NODISCARD
+uint32_t x64_outcome_of(uint64_t levels, const x64_controls *controls,
+                        const x64_access_request *request, const x64_entry *entries, size_t count,
+                        x64_outcome *outcome);
+
+/*
  * Maps a page to a frame, or changes nothing: unless it returns X64_OK, the tables, the pool and
  * *free_count are as before. It looks at the tables first. Then, from the root down,
  * request->parent_flags are added to each entry above the page. An entry that was 0 then also names

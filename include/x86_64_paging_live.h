@@ -575,48 +575,6 @@ typedef struct x64_arrival {
     x64_entry entries[X64_MOST_LEVELS]; /* these; with their marks, if request->mark is set */
 } x64_arrival;
 
-/* Tables for x64_access_live to work in: zeros before the first call, and after each. */
-typedef struct x64_scratch {
-    x64_table tables[X64_MOST_LEVELS];
-} x64_scratch;
-
-/* Copies the words of a path: the k-th into the k-th table of the scratch, which is the frame k
- * + 1. Each names the next one there, unless it reads no further, or its address has reserved bits.
- */
-static inline void x64_copy_path(const x64_entry *entries, size_t count, uint8_t physical_bits,
-                                 x64_scratch *scratch) {
-    for (size_t k = 0; k < count; k++) {
-        uint64_t word = entries[k].word;
-        bool reads_on = (word & X64_PRESENT) && x64_names_table(entries[k].level, word);
-        bool fits = physical_bits < 64 && (word & X64_ADDRESS) >> physical_bits == 0;
-        if (reads_on && fits)
-            word = (word & ~X64_ADDRESS) | 4096 * (uint64_t)(k + 2);
-        scratch->tables[k].words[entries[k].index] = word;
-    }
-}
-
-/* Returns what x64_access says of an access by the words of a path, and writes *outcome. */
-static inline uint32_t x64_judge(uint64_t levels, const x64_controls *controls,
-                                 const x64_access_request *request, const x64_entry *entries,
-                                 size_t count, x64_scratch *scratch, x64_outcome *outcome) {
-    x64_access_request asked = *request;
-    asked.mark = false;
-    x64_hierarchy copy;
-    copy.first = 1;
-    copy.root = 4096;
-    copy.levels = levels;
-    copy.segments = NULL;
-    copy.segment_count = 0;
-    x64_copy_path(entries, count, controls->physical_bits, scratch);
-    uint32_t status =
-        x64_access(&copy, scratch->tables, count > 0 ? count : 1, controls, &asked, outcome);
-    for (size_t k = 0; k < count; k++)
-        scratch->tables[k].words[entries[k].index] = 0;
-    if (status == X64_NO_TABLE && count > 0)
-        outcome->address = entries[count - 1].word & X64_ADDRESS;
-    return status;
-}
-
 /* Adds marks to an entry, also to entry->word, if its word is still that one, but for marks.
  * Returns whether it is. A word that has the marks isn't looked at. */
 static inline bool x64_mark_entry(uint64_t *at, x64_entry *entry, uint64_t marks) {
@@ -636,19 +594,19 @@ static inline bool x64_mark_entry(uint64_t *at, x64_entry *entry, uint64_t marks
  * x64_access says of such tables needn't belong together, and with mark it may put back a word that
  * the guest took away (reading_and_writing_loses_marks).
  *
- * It reads each word on the way once (x64_entries_live), and says what x64_access says of these
- * words. If request->mark is set and the access arrives, each entry gets X64_ACCESSED, from the
- * root down, and that of the page X64_DIRTY for a write, by a locked compare and exchange. If an
- * entry that lacks a mark is no longer the word that was read, but for marks, it returns
- * X64_CHANGED: call again. Entries above it may have got X64_ACCESSED by then, as a processor
- * leaves it. How often that happens is up to the guest.
+ * It reads each word on the way once (x64_entries_live), and says what x64_outcome_of says of them.
+ * If request->mark is set and the access arrives, each entry gets X64_ACCESSED, from the root down,
+ * and that of the page X64_DIRTY for a write, by a locked compare and exchange. If an entry that
+ * lacks a mark is no longer the word that was read, but for marks, it returns X64_CHANGED: call
+ * again. Entries above it may have got X64_ACCESSED by then, as a processor leaves it. How often
+ * that happens is up to the guest.
  *
  * What it says is good until the guest flushes the address, like what a TLB holds: so a flush by
  * the guest must wait until the access is done.
  *
- * Proved: what comes of an access by these words, since x64_access decides it over a copy of them.
- * That a mark isn't lost and a word doesn't come back is a law of the model (marks_are_never_lost).
- * Tested: the copy, beside x64_access, and the marks beside a thread that takes pages away.
+ * Proved: what comes of an access by these words (x64_outcome_of). That a mark isn't lost and a
+ * word doesn't come back is a law of the model (marks_are_never_lost). Tested: that each word is
+ * read once, beside x64_access, and the marks beside a thread that takes pages away.
  *
  * Condition: pointers only. Returns what x64_access returns, with *arrival in place of *outcome, or
  * X64_CHANGED; then *arrival isn't written.
@@ -656,17 +614,16 @@ static inline bool x64_mark_entry(uint64_t *at, x64_entry *entry, uint64_t marks
 X64_NODISCARD
 static inline uint32_t x64_access_live(const x64_hierarchy *hierarchy, x64_table *tables,
                                        size_t table_count, const x64_controls *controls,
-                                       const x64_access_request *request, x64_scratch *scratch,
-                                       x64_arrival *arrival) {
+                                       const x64_access_request *request, x64_arrival *arrival) {
     x64_arrival seen;
     uint32_t status = x64_entries_live(hierarchy, tables, table_count, request->address,
                                        seen.entries, &seen.count);
     if (x64_is_bad_hierarchy(status))
         return status;
     if (status == X64_BAD_ADDRESS)
-        seen.count = 0; /* x64_access looks at the kind of the access before */
-    status = x64_judge(hierarchy->levels, controls, request, seen.entries, seen.count, scratch,
-                       &seen.outcome);
+        seen.count = 0; /* x64_outcome_of looks at the kind of the access before */
+    status = x64_outcome_of(hierarchy->levels, controls, request, seen.entries, seen.count,
+                            &seen.outcome);
     if (status != X64_OK && status != X64_PAGE_FAULT && status != X64_NO_TABLE)
         return status;
     seen.size = 0;
@@ -694,7 +651,7 @@ static inline uint32_t x64_access_live(const x64_hierarchy *hierarchy, x64_table
 X64_NODISCARD
 static inline uint32_t x64_space_access_live(const x64_space *space, const x64_controls *controls,
                                              const x64_access_request *request,
-                                             x64_scratch *scratch, x64_arrival *arrival) {
+                                             x64_arrival *arrival) {
     x64_hierarchy hierarchy = x64_space_hierarchy(space);
     x64_access_request asked = *request;
     x64_arrival seen;
@@ -702,7 +659,7 @@ static inline uint32_t x64_space_access_live(const x64_space *space, const x64_c
     if (word != NULL && !(__atomic_load_n(word, __ATOMIC_ACQUIRE) & X64_ACCESSED))
         asked.mark = false;
     uint32_t status = x64_access_live(&hierarchy, space->tables, space->table_count, controls,
-                                      &asked, scratch, &seen);
+                                      &asked, &seen);
     if (status == X64_OK && asked.mark != request->mark)
         return X64_SHARED_ENTRY;
     if (status == X64_OK || status == X64_PAGE_FAULT || status == X64_NO_TABLE)

@@ -87,11 +87,10 @@ static bool was_written(const x64_space *space, uint64_t page) {
 
 /* Lets a processor read or write, and prints what comes of it. */
 static void use(uint32_t kind) {
-    static x64_scratch scratch;
     const x64_controls controls = {true, true, false, false, false, 52, false, false}; /* CR0.WP and EFER.NXE are on */
     const x64_access_request request = {PAGE, kind, true, true};
     x64_arrival arrival;
-    uint32_t status = x64_space_access_live(&process, &controls, &request, &scratch, &arrival);
+    uint32_t status = x64_space_access_live(&process, &controls, &request, &arrival);
     const char *name = kind == X64_WRITE ? "write" : "read";
     if (status == X64_OK)
         printf("%s: arrives at 0x%" PRIx64 "\n", name, arrival.outcome.address);

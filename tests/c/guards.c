@@ -32,7 +32,6 @@ static struct memory now, before, copied;
 static x64_space spaces[SPACES];
 static x64_pool pools[POOLS];
 static bool visited[TABLES];
-static x64_scratch scratch;
 static size_t checked, failed;
 static uint64_t state = 1;
 
@@ -300,7 +299,7 @@ static void try_accesses(const x64_space *space) {
         x64_arrival arrival;
         memset(&arrival, 0, sizeof arrival);
         WANTS(wanted[n], x64_space_access(space, &controls, &requests[n], &outcome));
-        WANTS(wanted[n], x64_space_access_live(space, &controls, &requests[n], &scratch, &arrival));
+        WANTS(wanted[n], x64_space_access_live(space, &controls, &requests[n], &arrival));
         CHECK(wanted[n] == X64_OK || wanted[n] == X64_PAGE_FAULT
                   ? memcmp(&outcome, &arrival.outcome, sizeof outcome) == 0 && arrival.count > 0
                   : outcome.level == 3 && arrival.count == 0);
@@ -308,7 +307,7 @@ static void try_accesses(const x64_space *space) {
     x64_space wrong = *space;
     x64_arrival arrival;
     wrong.levels = 99;
-    WANTS(X64_BAD_LEVELS, x64_space_access_live(&wrong, &controls, &requests[0], &scratch, &arrival));
+    WANTS(X64_BAD_LEVELS, x64_space_access_live(&wrong, &controls, &requests[0], &arrival));
 }
 
 /* Refuses each change of a shared entry of the root, and makes those of entries below it. */

@@ -194,7 +194,7 @@ struct hypervisor {
 };
 
 /* Makes a write for the guest. */
-static void write_for_guest(struct hypervisor *hypervisor, x64_scratch *scratch) {
+static void write_for_guest(struct hypervisor *hypervisor) {
     x64_hierarchy hierarchy = x64_space_hierarchy(&space);
     x64_controls controls = {true, true, false, false, false, 52, false, false};
     uint64_t number = hypervisor->turns % PAGES;
@@ -207,16 +207,15 @@ static void write_for_guest(struct hypervisor *hypervisor, x64_scratch *scratch)
             abort();
         return;
     }
-    while ((status = x64_access_live(&hierarchy, tables, TABLES, &controls, &request, scratch, &arrival)) == X64_CHANGED)
+    while ((status = x64_access_live(&hierarchy, tables, TABLES, &controls, &request, &arrival)) == X64_CHANGED)
         hypervisor->changed++;
     hypervisor->elsewhere += status == X64_OK && arrival.outcome.address != SMALL_FRAMES + number * 4096;
 }
 
 static void *be_hypervisor(void *argument) {
-    static x64_scratch scratch;
     struct hypervisor *hypervisor = (struct hypervisor *)argument;
     for (uint64_t n = 0; n < operations / 10; n++, hypervisor->turns++)
-        write_for_guest(hypervisor, &scratch);
+        write_for_guest(hypervisor);
     set_flag(&is_over, 1);
     return NULL;
 }
@@ -266,14 +265,14 @@ static uint64_t begun, ended;
 static void *write_large(void *argument) {
     x64_hierarchy hierarchy = x64_space_hierarchy(&space);
     x64_controls controls = {true, true, false, false, false, 52, false, false};
-    x64_scratch *scratch = (x64_scratch *)argument;
+    (void)argument;
     for (uint64_t n = 0; !is_set(&is_over); n++) {
         uint64_t offset = n * 4096 % X64_SIZE_2MIB;
         x64_access_request request = {LARGE + offset, X64_WRITE, true, true};
         x64_arrival arrival;
         uint32_t status;
         __atomic_store_n(&begun, n + 1, __ATOMIC_SEQ_CST);
-        while ((status = x64_access_live(&hierarchy, tables, TABLES, &controls, &request, scratch, &arrival)) == X64_CHANGED)
+        while ((status = x64_access_live(&hierarchy, tables, TABLES, &controls, &request, &arrival)) == X64_CHANGED)
             ;
         if (status != X64_OK || arrival.outcome.address != LARGE_FRAME + offset)
             abort();
@@ -312,13 +311,12 @@ static uint64_t split_and_join(uint64_t *looked) {
 }
 
 static uint64_t split_beside_writes(uint64_t rounds) {
-    static x64_scratch scratch;
     pthread_t thread;
     uint64_t lost = 0, looked = 0;
     fill(4);
     begun = ended = 0;
     set_flag(&is_over, 0);
-    begin(&thread, write_large, &scratch);
+    begin(&thread, write_large, NULL);
     for (uint64_t n = 0; n < rounds; n++)
         lost += split_and_join(&looked);
     set_flag(&is_over, 1);

@@ -29,6 +29,7 @@ struct arguments {
     uint64_t capacity, free_count, null_pool;
     uint64_t mark_count, null_marks;
     uint64_t list_capacity, null_list, entry_capacity, null_entries;
+    uint64_t entry_count; /* of x64_outcome_of: 0 for those that the walk reads. They are followed by zeros */
     uint64_t address, start, size, count, frame, flags, parent_flags, keep, level, first_page, last_page;
     uint64_t root_count, null_roots, second_root, shared_from, shared_to;
     uint64_t kind, user, mark, write_protect, no_execute, smep, smap, ac, physical_bits, no_1gib_pages, global_reserved;
@@ -139,6 +140,7 @@ enum function {
     POOL_FITS,
     SPACES_FIT,
     SPACES_FIT_IN,
+    OUTCOME_OF,
     ACCESS,
     MAP,
     MAP_AS_MAPPER,
@@ -161,10 +163,10 @@ enum function {
 
 static const char *const names[FUNCTIONS] = {
     "x64_page_walk",          "x64_walk",      "x64_entries",      "x64_translate",       "x64_mappings",  "x64_list_range",
-    "x64_is_valid",           "x64_pool_fits", "x64_spaces_fit",   "x64_spaces_fit_in",   "x64_access",    "x64_map",
-    "x64_map_as_mapper",      "x64_prepare",   "x64_unmap",        "x64_update_flags",    "x64_set_table_flags", "x64_map_range",
-    "x64_unmap_range",        "x64_update_flags_range", "x64_clean_up", "x64_clean_up_below_root", "x64_drop", "x64_take_range",
-    "x64_change_range",       "x64_new_space",          "x64_give_up_space",
+    "x64_is_valid",           "x64_pool_fits", "x64_spaces_fit",   "x64_spaces_fit_in",   "x64_outcome_of", "x64_access",
+    "x64_map",                "x64_map_as_mapper", "x64_prepare",  "x64_unmap",           "x64_update_flags", "x64_set_table_flags",
+    "x64_map_range",          "x64_unmap_range", "x64_update_flags_range", "x64_clean_up", "x64_clean_up_below_root", "x64_drop",
+    "x64_take_range",         "x64_change_range", "x64_new_space", "x64_give_up_space",
 };
 
 /* Returns the arguments that rows change. */
@@ -223,7 +225,8 @@ static uint32_t call(enum function function, const struct arguments *a) {
         .ac = a->ac, .physical_bits = (uint8_t)a->physical_bits, .no_1gib_pages = a->no_1gib_pages,
         .global_reserved = a->global_reserved};
     x64_access_request access = {.address = a->address, .kind = (uint32_t)a->kind, .user = a->user, .mark = a->mark};
-    size_t n = a->table_count;
+    size_t n = a->table_count, read = 0;
+    x64_entry path[READ];
     switch (function) {
     case PAGE_WALK:
         return x64_page_walk(h, tables, n, a->address, &world.walked);
@@ -246,6 +249,11 @@ static uint32_t call(enum function function, const struct arguments *a) {
                               marks, a->mark_count);
     case SPACES_FIT_IN:
         return x64_spaces_fit_in(h, tables, n, roots, a->root_count, from, to, pool, a->capacity, a->free_count, marks, a->mark_count);
+    case OUTCOME_OF:
+        memset(path, 0, sizeof path);
+        if (x64_entries(h, tables, n, a->address, path, READ, &read) == X64_BAD_ADDRESS || a->entry_count != 0 || a->null_entries)
+            read = a->entry_count;
+        return x64_outcome_of(a->levels, &controls, &access, a->null_entries ? NULL : path, read, &world.outcome);
     case ACCESS:
         return x64_access(h, tables, n, &controls, &access, &world.outcome);
     case MAP:
@@ -543,7 +551,18 @@ static const struct row give_up_space[] = {
     ROW("frame 0 before a bad array", X64_BAD_ROOT, SET(root, 0), SET(capacity, 0)),
 };
 
-/* The physical address or that of a frame, the error code, the level, and the table with the word that gets DIRTY. */
+/* The physical address or that of a frame, the error code, and the level. The rows of x64_access are tried, too, but for those with marks. */
+static const struct row outcome_of[] = {
+    WRITES("entries behind that of the page", X64_OK, OUT(0x434567, 0, 0, 0), SET(address, 0x234567), SET(entry_count, 4)),
+    WRITES("entries behind one without PRESENT", X64_PAGE_FAULT, OUT(0, 0, 2, 0), SET(address, 0x600000), SET(entry_count, 4)),
+    ROW("more entries than levels", X64_BAD_ARRAY, SET(entry_count, READ)),
+    ROW("five entries, with four levels", X64_BAD_ARRAY, SET(entry_count, 5), SET(only, 4)),
+    ROW("no entries", X64_BAD_ARRAY, SET(null_entries, 1)),
+    ROW("a bad kind before a bad array", X64_BAD_ACCESS, SET(kind, 3), SET(entry_count, READ)),
+    ROW("a bad address before a bad array", X64_BAD_ADDRESS, SET(address, NOT_CANONICAL), SET(entry_count, READ)),
+};
+
+/* The same, and the table with the word that gets DIRTY. */
 static const struct row access_rows[] = {
     WRITES("a read of 4 KiB", X64_OK, OUT(0x5abc, 0, 0, 0), SET(address, 0x1abc)),
     WRITES("a write", X64_OK, OUT(0x5abc, 0, 0, 0), SET(address, 0x1abc), SET(kind, X64_WRITE)),
@@ -1120,8 +1139,10 @@ static void read_out(enum function function, uint64_t levels, uint64_t out[4]) {
         out[0] = world.next == before.next ? 0 : world.next;
         world.next = before.next;
         break;
+    case OUTCOME_OF:
     case ACCESS:
-        out[0] = world.outcome.address, out[1] = world.outcome.code, out[2] = world.outcome.level, out[3] = dirty_table;
+        out[0] = world.outcome.address, out[1] = world.outcome.code, out[2] = world.outcome.level;
+        out[3] = function == ACCESS ? dirty_table : 0;
         world.outcome = before.outcome;
         break;
     case UNMAP:
@@ -1214,9 +1235,9 @@ static struct arguments arguments_of(const struct row *row, uint64_t levels) {
 }
 
 /* Whether a row is tried with so many levels. */
-static bool is_tried(const struct row *row, uint64_t levels) {
+static bool is_tried(enum function function, const struct row *row, uint64_t levels) {
     uint64_t only = arguments_of(row, levels).only;
-    return only == 0 || only == levels;
+    return (only == 0 || only == levels) && (function != OUTCOME_OF || row->words == 0);
 }
 
 /* Tries a row. */
@@ -1268,7 +1289,7 @@ static void try_rows(enum function function, const struct row *rows, size_t coun
     for (size_t n = 0; n < count; n++)
         for (size_t k = 0; k < (function == SPACES_FIT ? 2 : 3); k++)
             for (uint64_t levels = 4; levels <= 5; levels++)
-                if (is_tried(&rows[n], levels)) {
+                if (is_tried(function, &rows[n], levels)) {
                     first = firsts[k];
                     has_segments = k == 2;
                     try_row(function, &rows[n], levels);
@@ -1290,11 +1311,21 @@ static void try_flushes(void) {
 
 #define TRY(function, rows) try_rows(function, rows, sizeof rows / sizeof *rows)
 
+/* Whether a function takes a hierarchy. */
+static bool takes_hierarchy(enum function function) {
+    return function != SPACES_FIT && function != OUTCOME_OF;
+}
+
+/* Whether a function takes a hierarchy whose root it uses. */
+static bool takes_root(enum function function) {
+    return takes_hierarchy(function) && function != SPACES_FIT_IN;
+}
+
 /* Checks that a function met just the statuses that the header says it may return, which come after X64_OK and end with it. */
 static void check_statuses(enum function function, const uint32_t *statuses) {
     bool may[STATUSES] = {[X64_OK] = true, [X64_BAD_LEVELS] = true};
-    may[X64_BAD_SEGMENTS] = function != SPACES_FIT;
-    may[X64_BAD_ROOT] = function != SPACES_FIT && function != SPACES_FIT_IN;
+    may[X64_BAD_SEGMENTS] = takes_hierarchy(function);
+    may[X64_BAD_ROOT] = takes_root(function);
     for (; *statuses != X64_OK; statuses++)
         may[*statuses] = true;
     for (uint32_t status = 0; status < STATUSES; status++)
@@ -1307,9 +1338,9 @@ static void check_statuses(enum function function, const uint32_t *statuses) {
 int main(void) {
     for (int function = 0; function < FUNCTIONS; function++) {
         TRY((enum function)function, levels_rows);
-        if (function != SPACES_FIT)
+        if (takes_hierarchy((enum function)function))
             TRY((enum function)function, segment_rows);
-        if (function != SPACES_FIT && function != SPACES_FIT_IN)
+        if (takes_root((enum function)function))
             TRY((enum function)function, hierarchies);
         if (function == SPACES_FIT || function == SPACES_FIT_IN || function > CHANGE_RANGE)
             TRY((enum function)function, indices);
@@ -1331,6 +1362,8 @@ int main(void) {
     TRY(POOL_FITS, pool_fits);
     TRY(SPACES_FIT, spaces_fit);
     TRY(SPACES_FIT_IN, spaces_fit);
+    TRY(OUTCOME_OF, outcome_of);
+    TRY(OUTCOME_OF, access_rows);
     TRY(ACCESS, access_rows);
     TRY(MAP, map);
     TRY(MAP, refused_map);
@@ -1365,6 +1398,7 @@ int main(void) {
         [LIST_RANGE] = {X64_MORE, X64_PARENT_ENTRY_HUGE_PAGE, X64_BAD_PAGE},
         [IS_VALID] = {X64_NOT_VALID, X64_BAD_ARRAY},
         [POOL_FITS] = {X64_NOT_VALID, X64_BAD_ARRAY},
+        [OUTCOME_OF] = {X64_PAGE_FAULT, X64_NO_TABLE, X64_BAD_ARRAY, X64_BAD_ACCESS, X64_BAD_ADDRESS},
         [ACCESS] = {X64_PAGE_FAULT, X64_NO_TABLE, X64_BAD_ACCESS, X64_BAD_ADDRESS},
         [MAP] = {X64_NOT_ALLOWED, X64_FRAME_ALLOCATION_FAILED, X64_PARENT_ENTRY_HUGE_PAGE, X64_PAGE_ALREADY_MAPPED,
                  X64_BAD_ARRAY, X64_BAD_PAGE, X64_BAD_FRAME},

@@ -67,6 +67,7 @@ TESTS = Rules(
         ],
         "memory_unit::access": ["assert!(controls.physical_bits <= 52);"],
         "memory_unit::access_and_mark": ["assert!(controls.physical_bits <= 52);"],
+        "path::outcome_of": ["assert!(controls.physical_bits <= 52);"],
         "Controls::is_reserved": ["assert!(self.physical_bits <= 52);"],
         "cursor::span": ["assert!(1 <= level && level <= 5);"],
         "walk_entries::read_entries": ["assert!(L::LEVELS <= entries.len() as u64);"],

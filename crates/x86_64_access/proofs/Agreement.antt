@@ -1,5 +1,5 @@
 -- Accesses agree with page walks.
-use Rattle.std.proofs.Common.{zero, suc, inl, inr, ◌≡◌, ◌<◌, ◌≤◌, ◌-◌, ◌+◌, ◌%◌, ℕ, ◌&&◌, Bool, true≢false, true, false, not, cond, is_some, List, [], ◌∷◌, Some, None, Option, refl, sym, ap, subst, ◌∙◌, arith}
+use Rattle.std.proofs.Common.{zero, suc, inl, inr, ◌≡◌, ◌<◌, ◌≤◌, ◌-◌, ◌+◌, ◌%◌, ℕ, ◌&&◌, Bool, true≢false, true, false, not, cond, is_some, List, ◌∷◌, Some, None, Option, refl, sym, ap, subst, ◌∙◌, arith}
 use Rattle.x86_64_model.specs.Arrivals.{Reaches}
 use Rattle.x86_64_model.specs.Entry.{present, huge, writable, user, address}
 use Rattle.x86_64_model.specs.Mappings.{Rights, maps_page, rights_of, granted}
@@ -15,7 +15,8 @@ use Rattle.x86_64_model.specs.Steps.{Step}
 use Rattle.x86_64_access.specs.private.Walking.{access_on}
 use Rattle.x86_64_tables.specs.Rights.{both}
 use Rattle.x86_64_access.specs.Laws.{ArriveWhereWalksDo, WalksAllowedArrive}
-use Rattle.x86_64_access.proofs.Walked.{and_left, and_right, is_arrival, on_fault, on_none, on_page, on_root, on_table as to_table, on_zero, not_huge, page_low, words_in, steps_first, steps_on, steps_page, page_ends, table_high}
+use Rattle.x86_64_access.specs.Paths.{words_in}
+use Rattle.x86_64_access.proofs.Walked.{and_left, and_right, is_arrival, on_fault, on_none, on_page, on_root, on_table as to_table, on_zero, not_huge, page_low, steps_first, steps_on, steps_page, page_ends, table_high}
 
 -- the arrival in a page
 ends_in : (level p e : ℕ) (w u : Bool) → 1 ≤ level → level ≤ 3 → ends level p w u e ≡ Some (record { address = page_start level e + p % span level; write = w; user = u })

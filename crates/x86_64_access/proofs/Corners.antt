@@ -1,7 +1,7 @@
 -- The worked cases of accesses.
-use Rattle.std.proofs.Common.{◌≡◌, ◌≤◌, ℕ, Bool, true, false, true≢false, le-leb, not, ◌&&◌, ◌||◌, refl, sym, ap, ◌∙◌}
+use Rattle.std.proofs.Common.{◌≡◌, Bool, true, false, true≢false, le-leb, not, ◌&&◌, ◌||◌, refl, sym, ◌∙◌}
 use Rattle.std.proofs.Math.Bool.{or-true}
-use Rattle.x86_64_model.specs.Access.{Access, Controls, Faults, access, code, reserved, reserved_by_some}
+use Rattle.x86_64_model.specs.Access.{reserved, reserved_by_some}
 use Rattle.x86_64_model.specs.Mappings.{every_right}
 use Rattle.x86_64_access.proofs.Walked.{on_end, on_root}
 use Rattle.x86_64_access.specs.Corners.{GlobalIsReserved, HugeIsReserved, MissingEntriesFault, NoExecuteIsReserved, OthersAreReserved, ReservedBitsFault, SmapKeepsOut, SmepKeepsOut, SupervisorsWrite}

@@ -1,6 +1,7 @@
 pub mod ReservedBySome
 mod Deciding
 mod Walked
+pub mod Along
 mod Agreement
 mod Marks
 mod MarkedHierarchies

@@ -1,5 +1,5 @@
 -- Where no word has a bit that only some processors reserve.
-use Rattle.std.proofs.Common.{◌≡◌, ◌≤◌, ℕ, ◌&&◌, ◌||◌, ◌==◌, nat_le, Bool, true, false, true≢false, not, refl, arith, eqb-true}
+use Rattle.std.proofs.Common.{◌≡◌, ◌≤◌, ℕ, ◌&&◌, ◌||◌, ◌==◌, nat_le, Bool, true, false, true≢false, refl, arith}
 use Rattle.std.proofs.Math.Bool.{and-false}
 use Rattle.std.proofs.lemmas.Bool.{lt-leb}
 use Rattle.x86_64_model.specs.Access.{Controls, reserved_by_some}

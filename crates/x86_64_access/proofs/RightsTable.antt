@@ -1,5 +1,5 @@
 -- The tables of rights and error codes are those of the definitions.
-use Rattle.std.proofs.Common.{◌≡◌, ℕ, ◌&&◌, ◌==◌, Bool, true, false, not, cond, refl, sym, eqb-true}
+use Rattle.std.proofs.Common.{◌≡◌, ◌&&◌, ◌==◌, Bool, true, false, not, cond, refl, sym, eqb-true}
 use Rattle.std.proofs.lemmas.Bool.{and_parts}
 use Rattle.x86_64_model.specs.Access.{Access, Controls, Fetch, Kind, Read, Write, access_allowed, code}
 use Rattle.x86_64_model.specs.Mappings.{Rights}

@@ -12,11 +12,12 @@ use Rattle.x86_64_model.specs.Access.{Access, Kind, Controls, set_bits, bits_to_
 use Rattle.x86_64_access.proofs.Deciding.{both_left, both_right}
 use Rattle.x86_64_access.proofs.ReservedBySome.{low_none, page_none, table_none}
 use Rattle.x86_64_model.specs.Steps.{Step, leads_on, steps}
+use Rattle.x86_64_access.specs.Paths.{words_in}
 use Rattle.x86_64_access.specs.private.Walking.{access_on, may_read_on, reads_on, ArrivesFrom}
 use Rattle.x86_64_tables.specs.Rights.{both}
 use Rattle.std.specs.Int.Bits.{and_zero_r}
 use Rattle.std.proofs.Math.Bool.{and-false}
-use Rattle.std.proofs.lemmas.Bool.{eqb-true, eqb-false, lt-leb, ltb-false}
+use Rattle.std.proofs.lemmas.Bool.{eqb-true, eqb-false, lt-leb}
 
 -- ---- which words map pages, and which name tables
 
@@ -70,10 +71,29 @@ reads_is c level e low = by (present e) (maps_page level e) (huge e) (reserved c
 
 -- ---- the words that are read
 
+abbrev pub step_at : (p level frame word : ℕ) → Step
+step_at p level frame e = record { level = level; frame = frame; index = index level p; word = e }
+
+-- the steps from a word on, up to the first that has a reserved bit
+pub reads_first : (c : Controls) (p level frame e : ℕ) (below : List Step) → 1 ≤ level
+    → until (λ s. reserved c s.level s.word) (step_at p level frame e ∷ cond (leads_on level e) below [])
+    ≡ step_at p level frame e ∷ cond (reads_on c level e) (until (λ s. reserved c s.level s.word) below) []
+reads_first c p level frame e below l = ap (λ rest. step_at p level frame e ∷ rest)
+    (each (reserved c level e) (leads_on level e) ∙ ap (λ b. cond b (until bad below) []) (reads_is c level e l))
+  where
+    bad : Step → Bool
+    bad s = reserved c s.level s.word
+
+    each : (r b : Bool) → cond r [] (until bad (cond b below [])) ≡ cond (b && not r) (until bad below) []
+    each true true = refl
+    each true false = refl
+    each false true = refl
+    each false false = refl
+
 -- the steps by the word that is read
 steps_read : Controls → Words → (p level frame : ℕ) → Option ℕ → List Step
 steps_read c T p level frame word = unwrap_or (option_map
-    (λ e. record { level = level; frame = frame; index = index level p; word = e } ∷ cond (reads_on c level e) (steps_from c T p (level - 1) (address e)) []) word) []
+    (λ e. step_at p level frame e ∷ cond (reads_on c level e) (steps_from c T p (level - 1) (address e)) []) word) []
 
 steps_are : (c : Controls) (T : Words) (p level frame : ℕ) → 1 ≤ level → steps_from c T p level frame ≡ steps_read c T p level frame (read T frame (index level p))
 unfolding steps_from steps steps_read
@@ -83,27 +103,17 @@ steps_are c T p (suc n) frame l = by (read T frame (index (suc n) p)) ∙ ap (λ
     less : n ≡ suc n - 1
     less = omega arith
 
-    bad : Step → Bool
-    bad s = reserved c s.level s.word
-
     read_to : ℕ → Option ℕ → List Step
     read_to k word = unwrap_or (option_map
-        (λ e. record { level = suc n; frame = frame; index = index (suc n) p; word = e } ∷ cond (reads_on c (suc n) e) (until bad (steps T p k (address e))) []) word) []
+        (λ e. step_at p (suc n) frame e ∷ cond (reads_on c (suc n) e) (until (λ s. reserved c s.level s.word) (steps T p k (address e))) []) word) []
 
-    each : (r b : Bool) (below : List Step) → cond r [] (until bad (cond b below [])) ≡ cond (b && not r) (until bad below) []
-    each true true below = refl
-    each true false below = refl
-    each false true below = refl
-    each false false below = refl
-
-    by : (o : Option ℕ) → until bad (unwrap_or (option_map
-        (λ e. record { level = suc n; frame = frame; index = index (suc n) p; word = e } ∷ cond (leads_on (suc n) e) (steps T p n (address e)) []) o) []) ≡ read_to n o
+    by : (o : Option ℕ) → until (λ s. reserved c s.level s.word) (unwrap_or (option_map
+        (λ e. step_at p (suc n) frame e ∷ cond (leads_on (suc n) e) (steps T p n (address e)) []) o) []) ≡ read_to n o
     by None = refl
-    by (Some e) = ap (λ rest. record { level = suc n; frame = frame; index = index (suc n) p; word = e } ∷ rest)
-        (each (reserved c (suc n) e) (leads_on (suc n) e) (steps T p n (address e)) ∙ ap (λ b. cond b (until bad (steps T p n (address e))) []) (reads_is c (suc n) e l))
+    by (Some e) = reads_first c p (suc n) frame e (steps T p n (address e)) l
 
 -- the outcome of steps
-abbrev comes_of : Controls → Access → (p : ℕ) → Rights → (frame : ℕ) → List Step → Outcome
+abbrev pub comes_of : Controls → Access → (p : ℕ) → Rights → (frame : ℕ) → List Step → Outcome
 comes_of c a p r frame steps = ends_by c a p (both r (rights_of (map (λ s. s.word) steps))) frame (last_or None steps)
 
 on_is : (c : Controls) (T : Words) (p : ℕ) (a : Access) (level frame : ℕ) (r : Rights) → access_on c T p a level frame r ≡ comes_of c a p r frame (steps_from c T p level frame)
@@ -140,51 +150,77 @@ is_arrival outcome = false
 
 -- ---- rights
 
-abbrev pub words_in : List Step → List ℕ
-words_in steps = map (λ s. s.word) steps
-
 -- the last step decides, whatever frame the walk began with
-at_last : (c : Controls) (a : Access) (p : ℕ) (r : Rights) (frame other : ℕ) (s : Step) (steps : List Step)
+pub at_last : (c : Controls) (a : Access) (p : ℕ) (r : Rights) (frame other : ℕ) (s : Step) (steps : List Step)
     → ends_by c a p r frame (last_or (Some s) steps) ≡ ends_by c a p r other (last_or (Some s) steps)
 at_last c a p r frame other s [] = refl
 at_last c a p r frame other s (t ∷ steps) = at_last c a p r frame other t steps
+
+-- ---- by the word at which the processor reads no further
+
+-- it maps a page, and the rights suffice
+pub ends_arriving : (c : Controls) (a : Access) (p : ℕ) (r : Rights) (s : Step) → present s.word ≡ true → reserved c s.level s.word ≡ false → maps_page s.level s.word ≡ true
+    → access_allowed c a r ≡ true → Arrives (page_start s.level s.word + p % span s.level) ≡ ends_at c a p r s
+ends_arriving c a p r s here sound page may = rw (here, sound, page, may) refl
+
+-- in the table of a page's word the processor reads nothing
+pub page_reads : (c : Controls) (level e : ℕ) → maps_page level e ≡ true → reads_on c level e ≡ false
+page_reads c level e page = rw page (and-false (present e && not (reserved c level e)))
+
+-- ---- by the first of the steps
+
+-- steps from a word on, of which there are more if the processor reads on
+module _ (c : Controls) (p : ℕ) (a : Access) (level frame : ℕ) (r : Rights) (e : ℕ) (below whole : List Step)
+    (are : whole ≡ step_at p level frame e ∷ cond (reads_on c level e) below []) where
+  to_first : comes_of c a p r frame whole ≡ comes_of c a p r frame (step_at p level frame e ∷ cond (reads_on c level e) below [])
+  to_first = ap (comes_of c a p r frame) are
+
+  -- they end at the word
+  pub first_ends : reads_on c level e ≡ false → ends_at c a p (granted r e) (step_at p level frame e) ≡ comes_of c a p r frame whole
+  first_ends h = sym (to_first ∙ ap (λ b. comes_of c a p r frame (step_at p level frame e ∷ cond b below [])) h
+      ∙ ap (λ s. ends_at c a p s (step_at p level frame e)) (both_last r e))
+
+  -- where the steps from the table below lead, if there are any
+  after : (steps : List Step) → ends_at c a p (both r (rights_of (e ∷ []))) (step_at p level frame e) ≡ NoMemory (address e)
+      → comes_of c a p r frame (step_at p level frame e ∷ steps) ≡ comes_of c a p (granted r e) (address e) steps
+  after [] gone = gone
+  after (s ∷ steps) gone = ap (λ k. ends_by c a p k frame (last_or (Some s) steps)) (both_more r e (s.word ∷ words_in steps))
+      ∙ at_last c a p (both (granted r e) (rights_of (s.word ∷ words_in steps))) frame (address e) s steps
+
+  -- they go on in the table that the word names
+  pub first_leads : present e ≡ true → reserved c level e ≡ false → maps_page level e ≡ false
+      → comes_of c a p (granted r e) (address e) below ≡ comes_of c a p r frame whole
+  first_leads here sound table =
+      sym (to_first ∙ ap (λ b. comes_of c a p r frame (step_at p level frame e ∷ cond b below [])) goes_on ∙ after below gone)
+    where
+      goes_on : reads_on c level e ≡ true
+      goes_on = rw (here, sound, table) refl
+
+      gone : ends_at c a p (both r (rights_of (e ∷ []))) (step_at p level frame e) ≡ NoMemory (address e)
+      gone = rw (here, sound, table) refl
 
 -- ---- by the word that is read
 
 module _ (c : Controls) (T : Words) (p : ℕ) (a : Access) (level frame : ℕ) (r : Rights) (e : ℕ) (l : 1 ≤ level) (is : Some e ≡ read T frame (index level p)) where
   abbrev step : Step
-  step = record { level = level; frame = frame; index = index level p; word = e }
+  step = step_at p level frame e
 
   abbrev below : List Step
   below = steps_from c T p (level - 1) (address e)
 
-  to_step : access_on c T p a level frame r ≡ comes_of c a p r frame (step ∷ cond (reads_on c level e) below [])
+  are : steps_from c T p level frame ≡ step ∷ cond (reads_on c level e) below []
   unfolding steps_read
-  to_step = on_is c T p a level frame r ∙ ap (comes_of c a p r frame) (steps_are c T p level frame l ∙ ap (steps_read c T p level frame) (sym is))
+  are = steps_are c T p level frame l ∙ ap (steps_read c T p level frame) (sym is)
 
   -- the walk ends at the word
   pub on_end : reads_on c level e ≡ false → ends_at c a p (granted r e) step ≡ access_on c T p a level frame r
-  on_end h = sym (to_step ∙ ap (λ b. comes_of c a p r frame (step ∷ cond b below [])) h
-      ∙ ap (λ s. ends_at c a p s step) (both_last r e))
-
-  -- where the steps from the table below lead, if there are any
-  after : (steps : List Step) → ends_at c a p (both r (rights_of (e ∷ []))) step ≡ NoMemory (address e)
-      → comes_of c a p r frame (step ∷ steps) ≡ comes_of c a p (granted r e) (address e) steps
-  after [] gone = gone
-  after (s ∷ steps) gone = ap (λ k. ends_by c a p k frame (last_or (Some s) steps)) (both_more r e (s.word ∷ words_in steps))
-      ∙ at_last c a p (both (granted r e) (rights_of (s.word ∷ words_in steps))) frame (address e) s steps
+  on_end h = first_ends c p a level frame r e below (steps_from c T p level frame) are h ∙ sym (on_is c T p a level frame r)
 
   -- the walk goes on in the table that the word names
   pub on_table : present e ≡ true → reserved c level e ≡ false → maps_page level e ≡ false
       → access_on c T p a (level - 1) (address e) (granted r e) ≡ access_on c T p a level frame r
   on_table here sound table = on_is c T p a (level - 1) (address e) (granted r e)
-      ∙ sym (to_step ∙ ap (λ b. comes_of c a p r frame (step ∷ cond b below [])) goes_on ∙ after below gone)
-    where
-      goes_on : reads_on c level e ≡ true
-      goes_on = rw (here, sound, table) refl
-
-      gone : ends_at c a p (both r (rights_of (e ∷ []))) step ≡ NoMemory (address e)
-      gone = rw (here, sound, table) refl
+      ∙ first_leads c p a level frame r e below (steps_from c T p level frame) are here sound table ∙ sym (on_is c T p a level frame r)
 
   -- the word is absent or has a reserved bit
   pub on_fault : (present e && not (reserved c level e)) ≡ false → Faults (code c a (present e) (present e)) level ≡ access_on c T p a level frame r
@@ -206,17 +242,11 @@ module _ (c : Controls) (T : Words) (p : ℕ) (a : Access) (level frame : ℕ) (
       arrives : cond (not (access_allowed c a (granted r e))) (Faults (code c a true false) level) (Arrives (page_start level e + p % span level)) ≡ ends_at c a p (granted r e) step
       arrives = rw (here, sound, page) refl
 
-  -- the word maps a page whose rights suffice
-  pub on_arrival : present e ≡ true → reserved c level e ≡ false → maps_page level e ≡ true → access_allowed c a (granted r e) ≡ true
-      → Arrives (page_start level e + p % span level) ≡ access_on c T p a level frame r
-  on_arrival here sound page may =
-      sym (ap (λ b. cond (not b) (Faults (code c a true false) level) (Arrives (page_start level e + p % span level))) may) ∙ on_page here sound page
-
   -- the steps end at a page
   pub steps_page : maps_page level e ≡ true → steps_from c T p level frame ≡ step ∷ []
   unfolding steps_read
   steps_page page =
-      let ends : reads_on c level e ≡ false = rw page (and-false (present e && not (reserved c level e))) in
+      let ends : reads_on c level e ≡ false = page_reads c level e page in
       steps_are c T p level frame l ∙ ap (steps_read c T p level frame) (sym is) ∙ ap (λ b. step ∷ cond b below []) ends
 
 -- otherwise they go on in the table that the word names
@@ -306,6 +336,13 @@ pub no_page : (a h b : Bool) → a ≡ false → h ≡ false → (a || (h && b))
 no_page false false b n m = refl
 no_page true h b n m = absurd (true≢false n)
 no_page false true b n m = absurd (true≢false m)
+
+-- above level one the processor reads on by a word that lets it do so at any level
+pub read_on : (c : Controls) (level e : ℕ) → (level == 1) ≡ false → may_read_on c e ≡ true → reads_on c level e ≡ true
+read_on c level e other on =
+    let sound = reads_sound c level e on in
+    let table : maps_page level e ≡ false = no_page (level == 1) (huge e) ((level == 2) || (level == 3)) other (read_not_huge c e on) in
+    rw (sound.0, sound.1, table) refl
 
 -- a word after which the processor reads on
 pub table_sound : (c : Controls) (level e : ℕ) → reads_on c level e ≡ true → (present e ≡ true) × (reserved c level e ≡ false) × (maps_page level e ≡ false)

@@ -2,6 +2,7 @@ pub use Rattle.x86_64_model.specs.Access
 pub use Rattle.x86_64_model.specs.Steps
 pub mod Codes
 pub mod Accesses
+pub mod Paths
 pub mod Laws
 pub mod Marks
 pub mod MarkingProcessors

@@ -8,10 +8,12 @@ mod entry_bits;
 pub mod laws;
 mod masks;
 mod memory_unit;
+mod path;
 mod request;
 mod right_bits;
 
 pub use code::PageFaultCode;
 pub use controls::Controls;
 pub use memory_unit::{access, access_and_mark};
+pub use path::outcome_of;
 pub use request::{Access, AccessKind, Fault};

@@ -1,11 +1,9 @@
 //! Masks, which say of an access what goes through by one comparison of an entry's bits.
-ghost use Rattle.std.specs.Prelude.{◌≡◌, ◌≤◌, ◌==◌, ◌&&◌, ◌||◌, not, ℕ, bit_and};
-ghost use Rattle.x86_64_model.specs.Access.{access_allowed, kept_out, low_bits, reserved};
+ghost use Rattle.std.specs.Prelude.{◌≡◌, ◌≤◌, ◌==◌, ◌&&◌, ◌||◌, not, bit_and};
+ghost use Rattle.x86_64_model.specs.Access.{kept_out, low_bits};
 ghost use Rattle.x86_64_model.specs.Mappings.{maps_page};
-ghost use Rattle.x86_64_model.specs.Entry.{present};
 ghost use Rattle.x86_64_access.specs.Accesses.{access_of, controls_of};
-ghost use Rattle.x86_64_access.specs.private.Masks.{global_bits, high_bits, kept_bits, kind_bits, off_bits, user_bits};
-ghost use Rattle.x86_64_access.specs.private.Walking.{may_read_on, rights_by};
+ghost use Rattle.x86_64_access.specs.private.Masks.{Decides, global_bits, high_bits, kept_bits, kind_bits, off_bits, user_bits};
 
 use crate::controls::{Controls, low_bits};
 use crate::entry_bits::{
@@ -37,12 +35,7 @@ impl Masks {
     /// Requires at most 52 bits of physical addresses.
     pub fn of(access: Access, controls: &Controls) -> Masks
         requires { controls.now.physical_bits ≤ 52 }
-        ensures table { (e : ℕ) → (bit_and e result.table == 1) ≡ may_read_on (controls_of controls.now) e }
-        ensures page { (e : ℕ) → (bit_and e result.page == 1)
-            ≡ (present e && not (reserved (controls_of controls.now) 1 e)) }
-        ensures giant { result.no_1gib_pages ≡ controls.now.no_1gib_pages }
-        ensures rights { (b : ℕ) → (bit_and b result.asked == result.needed)
-            ≡ access_allowed (controls_of controls.now) (access_of access) (rights_by b) }
+        ensures { Decides (controls_of controls.now) (access_of access) result }
     {
         let reserved = high_bits(controls) | off_bits(controls);
         let kind = kind_bits(access, controls);

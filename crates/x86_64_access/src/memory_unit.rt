@@ -91,18 +91,17 @@ pub fn access_and_mark<T: TableMemory, P: PageTableFrameMapping, L: LevelCount>(
 
 /// An access that is asked of a processor.
 #[derive(Clone, Copy)]
-struct Request {
-    access: Access,
-    controls: Controls,
+pub(crate) struct Request {
+    pub access: Access,
+    pub controls: Controls,
 }
 
 impl Request {
-    ghost use Rattle.std.specs.Prelude.{◌&&◌, false, not};
-    ghost use Rattle.x86_64_model.specs.Access.{Faults, code, ends_at, marked, reserved, steps_from};
-    ghost use Rattle.x86_64_model.specs.Entry.{present};
-    ghost use Rattle.x86_64_model.specs.Mappings.{maps_page};
+    ghost use Rattle.std.specs.Prelude.{false, IfSome, IfNone};
+    ghost use Rattle.x86_64_model.specs.Access.{Faults, code, ends_at, marked, steps_from};
     ghost use Rattle.x86_64_access.specs.Accesses.{fault_of};
-    ghost use Rattle.x86_64_access.specs.private.Walking.{ArrivesFrom};
+    ghost use Rattle.x86_64_access.specs.private.Masks.{Decides};
+    ghost use Rattle.x86_64_access.specs.private.Walking.{ArrivesFrom, reads_on, rights_by};
 
     /// Reads from the root down through `levels` levels, at a position: the number of an address counted without the gap.
     fn walk<T: TableMemory, P: PageTableFrameMapping>(
@@ -128,13 +127,8 @@ impl Request {
             };
             let entry = &table[index_of(position, level)];
             rights = rights.below(entry);
-            if level == 1 || entry.word() & masks.table != PRESENT {
-                if masks.accept(level, entry) && rights.suffice(masks) {
-                    return Ok(address_in_page(level, entry, position));
-                }
-                if !self.controls.reads_on(level, entry) {
-                    return self.end_at(level, entry, position, rights.rights());
-                }
+            if let Some(end) = self.decide(masks, level, entry, position, rights) {
+                return end;
             }
             frame = PhysFrame::from_start_address_unchecked(entry.addr());
         }
@@ -186,6 +180,38 @@ impl Request {
         }
     }
 
+    /// Returns where the access ends at an entry of a level, or `None` if the processor reads on in the table that the entry names. The
+    /// rights are those that all entries down to this one grant.
+    #[inline]
+    pub fn decide(
+        self,
+        masks: Masks,
+        level: u64,
+        entry: &PageTableEntry,
+        position: u64,
+        rights: RightBits,
+    ) -> Option<Result<PhysAddr, Fault>>
+        requires low { 1 ≤ level }
+        requires bits { self.controls.physical_bits ≤ 52 }
+        requires masks { Decides (controls_of self.controls) (access_of self.access) masks }
+        ensures end { IfSome result (λ end. outcome_of end
+            ≡ ends_at (controls_of self.controls) (access_of self.access) position (rights_by rights.0)
+            (record { level = level; frame = 0; index = 0; word = entry.now })) }
+        ensures ends { IfSome result (λ _. reads_on (controls_of self.controls) level entry.now ≡ false) }
+        ensures on { IfNone result (reads_on (controls_of self.controls) level entry.now ≡ true) }
+    {
+        if level != 1 && entry.word() & masks.table == PRESENT {
+            return None;
+        }
+        if masks.accept(level, entry) && rights.suffice(masks) {
+            return Some(Ok(address_in_page(level, entry, position)));
+        }
+        if self.controls.reads_on(level, entry) {
+            return None;
+        }
+        Some(self.end_at(level, entry, position, rights.rights()))
+    }
+
     /// Returns where the access ends at an entry of a level in which it doesn't read on: in the page that the entry maps, or by a
     /// fault.
     fn end_at(
@@ -197,8 +223,7 @@ impl Request {
     ) -> Result<PhysAddr, Fault>
         requires low { 1 ≤ level }
         requires bits { self.controls.physical_bits ≤ 52 }
-        requires last { (present entry.now && not (reserved (controls_of self.controls) level entry.now)
-            && not (maps_page level entry.now)) ≡ false }
+        requires last { reads_on (controls_of self.controls) level entry.now ≡ false }
         ensures { outcome_of result
             ≡ ends_at (controls_of self.controls) (access_of self.access) position rights
             (record { level = level; frame = 0; index = 0; word = entry.now }) }

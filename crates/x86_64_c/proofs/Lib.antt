@@ -20,3 +20,4 @@ pub mod WalkBySteps
 pub mod Prepared
 pub mod WordRangesTold
 pub mod Dropped
+pub mod PathsRead

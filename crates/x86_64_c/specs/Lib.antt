@@ -6,6 +6,7 @@ pub mod Entries
 pub mod Walks
 pub mod Listing
 pub mod Accesses
+pub mod Paths
 pub mod Calls
 pub mod PoolCalls
 pub mod BelowRoot

@@ -152,7 +152,7 @@ impl<'a> Operation for Asked<'a> {
 }
 
 /// Returns the access of a request to a processor, if its kind and the number of physical bits are right.
-fn access_of(controls: &Controls, request: &AccessRequest) -> Option<Access>
+pub fn access_of(controls: &Controls, request: &AccessRequest) -> Option<Access>
     ensures some { IfSome result (λ access. memory_unit.access_of access
         ≡ accesses.access_asked request.now) }
     ensures good { IfSome result (λ _. accesses.wrong_access controls.now request.now ≡ None) }
@@ -218,7 +218,7 @@ fn access_at<L: LevelCount, T: TableMemory, P: PageTableFrameMapping + Copy>(
 }
 
 /// Returns the controls of a processor.
-fn controls_of(controls: &Controls) -> x86_64_access::Controls
+pub fn controls_of(controls: &Controls) -> x86_64_access::Controls
     ensures { memory_unit.controls_of result ≡ accesses.given_controls controls.now }
 {
     x86_64_access::Controls {
@@ -234,7 +234,7 @@ fn controls_of(controls: &Controls) -> x86_64_access::Controls
 }
 
 /// Writes what came of an access, and returns the status.
-fn tell(came: Result<PhysAddr, Fault>, outcome: &mut Outcome) -> u32
+pub fn tell(came: Result<PhysAddr, Fault>, outcome: &mut Outcome) -> u32
     ensures status { result ≡ accesses.outcome_status (memory_unit.outcome_of came) }
     ensures outcome { outcome.new ≡ accesses.outcome_written (memory_unit.outcome_of came) }
 {

@@ -16,6 +16,7 @@ mod listing;
 mod maps;
 mod operation;
 mod parts;
+mod paths;
 mod pool;
 mod pool_calls;
 mod preparations;

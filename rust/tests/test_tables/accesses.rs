@@ -2,6 +2,7 @@
 
 use crate::prelude::*;
 use x86_64_paging::access::{access, access_and_mark, Access, AccessKind, Controls, Fault};
+use x86_64_paging::{read_entries, EntriesRead, WalkEntry, MOST_LEVELS};
 
 /// A processor with all its protections off, and with all of them on.
 const OFF: Controls = Controls {
@@ -135,6 +136,11 @@ fn accesses_arrive_or_fault() {
         let addr = VirtAddr::new_truncate(0x123);
         let found = access(&memory, &IdentityMapping, root, addr, *asked, controls);
         assert_equal_in(n, outcome_of(found), *wanted);
+        let mut read = [WalkEntry::NONE; MOST_LEVELS];
+        let EntriesRead { count, .. } = read_entries(&memory, &IdentityMapping, root, addr, &mut read);
+        let entries = read.map(|entry| PageTableEntry::from_word(entry.word));
+        let along = x86_64_paging::access::outcome_of(&entries[..count], root, addr, *asked, controls);
+        assert_equal_in(n, outcome_of(along), *wanted);
         let marked = access_and_mark(&mut memory, &IdentityMapping, root, addr, *asked, controls);
         assert_equal_in(n, outcome_of(marked), *wanted);
     }

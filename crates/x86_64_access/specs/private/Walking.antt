@@ -1,17 +1,24 @@
 -- An access from a frame's table on, by the rights that the words above it grant.
-use Rattle.std.specs.Prelude.{◌≡◌, ◌^◌, ◌&&◌, ◌||◌, not, nat_lt, Bool, ℕ, None}
+use Rattle.std.specs.Prelude.{◌≡◌, ◌^◌, ◌&&◌, ◌||◌, not, nat_lt, Bool, ℕ, List, None}
 use Rattle.std.specs.List.{last_or}
-use Rattle.x86_64_model.specs.Access.{Access, Controls, Outcome, Arrives, reserved, steps_from, ends_by}
+use Rattle.x86_64_model.specs.Access.{Access, Controls, Outcome, Arrives, reserved, steps_from, ends_by, until}
 use Rattle.x86_64_model.specs.Entry.{has, present, huge, global, no_execute, address}
 use Rattle.x86_64_model.specs.Mappings.{Rights, maps_page}
 use Rattle.x86_64_model.specs.Steps.{rights_in}
 use Rattle.x86_64_model.specs.Memory.{Words}
 use Rattle.x86_64_tables.specs.Rights.{both}
+use Rattle.x86_64_access.specs.Paths.{steps_along}
 
 -- The outcome of an access at position p (the number of an address counted without the non-canonical gap), from a frame's table of
 -- a level down, if the words above grant these rights.
 unfoldable pub access_on : Controls → Words → (p : ℕ) → Access → (level frame : ℕ) → Rights → Outcome
 access_on c T p a level frame r = let steps = steps_from c T p level frame in
+    ends_by c a p (both r (rights_in steps)) frame (last_or None steps)
+
+-- The outcome of an access at position p (the number of an address counted without the non-canonical gap), if the processor reads these
+-- words one after another, from a frame's table of a level down, and the words above grant these rights.
+unfoldable pub along_on : Controls → (p : ℕ) → Access → (level frame : ℕ) → Rights → (words : List ℕ) → Outcome
+along_on c p a level frame r words = let steps = until (λ s. reserved c s.level s.word) (steps_along p level frame words) in
     ends_by c a p (both r (rights_in steps)) frame (last_or None steps)
 
 -- Whether the processor reads on in the table that a word of this level names: the word is present, has no reserved bit, and maps
