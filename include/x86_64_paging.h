@@ -470,9 +470,10 @@ enum {
  *
  * The flags of an entry are all its bits except 12 to 51, which are the address of a frame
  * (X64_ADDRESS in x86_64_paging_live.h). Page walks ignore bits 9 to 11 and 52 to 58 (but bit 11
- * under HLAT): they are the caller's, and the library keeps them. Bit 7 of a page of 4 KiB and bit
- * 12 of a larger one are PAT, which maps refuse to set; an exchange of the word may. These bits
- * have names:
+ * under HLAT): they are the caller's, and the library keeps them. PAT is bit 7 of a page of 4 KiB,
+ * and bit 12 of a larger one. Maps refuse to set it; an exchange of the word does. x64_unmap
+ * refuses a page of 4 KiB that has it, and x64_space_take_page takes that away. These bits have
+ * names:
  */
 #define X64_PRESENT UINT64_C(0x1)         /* the processor uses the entry */
 #define X64_WRITABLE UINT64_C(0x2)        /* writes are allowed, if all entries on the way agree */
