@@ -36,8 +36,9 @@
  *
  * The tables are the frames 0x100 to 0x13f of physical memory, to which a kernel has a pointer in
  * place of the array. The first of them, all zeros, is the root, with four levels of tables, and
- * the others are free. The page at 0x400000 is mapped to the frame at 0x7000000, and three free
- * frames became tables on the way to it.
+ * the others are free: these may hold anything, since a table is cleared when it is made. The page
+ * at 0x400000 is mapped to the frame at 0x7000000, and three free frames became tables on the way
+ * to it. A kernel that has tables already makes a space of their root: x64_space_fits tests them.
  *
  * There is one x64_space for each root, and no field of it changes after it is made, so processors
  * may share it without a lock. A pool changes with each call that takes frames from it or gives
@@ -52,8 +53,11 @@
  *
  * A frame is 4096 bytes of physical memory. Its number is its physical address divided by 4096.
  * `tables[i]` is the frame with the number `first + i`. So entries name tables by their physical
- * addresses, and no address is used as a pointer. A frame outside the array can be mapped, but it
- * can't hold a table.
+ * addresses, and no address is used as a pointer. A frame outside the array can't hold a table. But
+ * a page can be mapped to any frame: outside the array or in it, to one that holds a table, or to
+ * one that other pages are mapped to. The library doesn't look at that. A kernel that reaches
+ * physical memory at its own addresses lets the array begin at frame 1 or above: a null pointer
+ * would be no array.
  *
  * A memory with holes has segments (x64_segment) in place of `first`: each says which frames have
  * which tables of the array. A guest whose memory goes on above 4 GiB has two, for example, and a
@@ -162,8 +166,8 @@
  * reads ahead whatever it can reach, at any moment, and forgets when it likes. The library executes
  * no privileged instruction, so the caller flushes. What a call makes due depends on its status,
  * and x64_flush_after returns it. After an exchange of a word (x86_64_paging_live.h)
- * x64_flush_between does. A call on a space makes due what the raw call does that it makes:
- * x64_space_map and x64_space_map_list what x64_map does, for example.
+ * x64_flush_between does. A call on a space makes due what its raw call makes due: x64_space_map
+ * and x64_space_map_list what x64_map does, for example.
  *
  *   call                      status            due
  *   x64_unmap                 X64_OK            the page: INVLPG of an address in it
@@ -198,7 +202,9 @@
  * count on it.
  *
  * Who flushes: each processor that uses the root. If the page of the call, or a part of its range,
- * lies below entries that roots share, each processor that uses one of these roots.
+ * lies below entries that roots share, each processor that uses one of these roots. So a process
+ * ends without a flush, if first each processor loads another root and each PCID that holds this
+ * one is given up (see below), and its pages are taken away and its tables cleaned up after that.
  *
  * When: several calls may be made before their flushes. A flush waits no longer than this:
  *
@@ -487,8 +493,12 @@ enum {
 /*
  * FLAGS
  *
- * The flags of an entry are all its bits except 12 to 51, which are the address of a frame. These
- * have names:
+ * The flags of an entry are all its bits except 12 to 51, which are the address of a frame
+ * (X64_ADDRESS). Page walks ignore bits 9 to 11 and 52 to 58 (but bit 11
+ * under HLAT): they are the caller's, and the library keeps them. PAT is bit 7 of a page of 4 KiB,
+ * and bit 12 of a larger one. Maps refuse to set it; an exchange of the word does. x64_unmap
+ * refuses a page of 4 KiB that has it, and x64_space_take_page takes that away. These bits have
+ * names:
  */
 #define X64_PRESENT UINT64_C(0x1)         /* the processor uses the entry */
 #define X64_WRITABLE UINT64_C(0x2)        /* writes are allowed, if all entries on the way agree */
@@ -500,6 +510,10 @@ enum {
 #define X64_HUGE_PAGE UINT64_C(0x80)      /* at levels 3 and 2: the entry maps a page */
 #define X64_GLOBAL UINT64_C(0x100)        /* the page stays in the TLB if CR3 is loaded */
 #define X64_NO_EXECUTE UINT64_C(0x8000000000000000) /* instructions aren't fetched */
+
+/* The bits of an entry that are the address of a frame. In a page of 2 MiB or 1 GiB bit 12 is PAT,
+ * and no part of the address. */
+#define X64_ADDRESS UINT64_C(0x000ffffffffff000)
 
 /* The sizes of pages, in bytes. */
 #define X64_SIZE_4KIB UINT64_C(0x1000)
@@ -599,7 +613,8 @@ typedef struct x64_mapping {
     bool execute;   /* no entry on the way has X64_NO_EXECUTE */
 } x64_mapping;
 
-/* A page of a range, and what its entry is or was, present or not. */
+/* A page of a range, and what its entry is or was, present or not. If it is present, its frame is
+ * word & X64_ADDRESS, but for bit 12 of a larger page. */
 typedef struct x64_taken {
     uint64_t page; /* its first address */
     uint64_t size; /* its size in bytes, one of the three */
@@ -742,13 +757,15 @@ static inline uint32_t x64_space_list_range(const x64_space *space, uint64_t fir
 /* x64_map: maps a page of a size to a frame, or changes nothing. The entries above the page get the
  * parent flags: those of X64_PRESENT, X64_WRITABLE and X64_USER_ACCESSIBLE that its flags have, and
  * always X64_ACCESSED. If the page's own entry gets one of these later, by another call, those
- * above it need it, too: pass it to x64_space_map_with. Returns X64_OK or one of these:
+ * above it need it, too, as X64_WRITABLE for copy on write: make a request by x64_map_request_of,
+ * add the flag to its parent_flags, and call x64_space_map_with. Returns X64_OK or one of these:
  *   X64_SHARED_ENTRY             if a shared entry above the page is 0, or lacks a parent flag
  *   X64_PAGE_ALREADY_MAPPED      if the page's entry isn't 0
  *   X64_PARENT_ENTRY_HUGE_PAGE   if an entry above it maps a larger page
  *   X64_FRAME_ALLOCATION_FAILED  if too few frames are free
- *   X64_NOT_ALLOWED              if the flags can't be set, or lack X64_PRESENT, and an entry above
- *                                the page would lack it, too
+ *   X64_NOT_ALLOWED              if the flags have any of the bits 12 to 51, or, for a page of
+ *                                4 KiB, X64_HUGE_PAGE; or if they lack X64_PRESENT, and an entry
+ *                                above the page would lack it, too
  *   X64_BAD_PAGE; X64_BAD_FRAME */
 X64_NODISCARD
 static inline uint32_t x64_space_map(const x64_space *space, x64_pool *pool, uint64_t page,
@@ -894,9 +911,9 @@ X64_NODISCARD
 static inline uint32_t x64_space_new(const x64_space *space, x64_pool *pool, x64_space *other);
 
 /* x64_give_up_space: puts the root's frame into the pool. Before, take all pages away that aren't
- * below shared entries, and clean up, both of which x64_space_drop does; and no processor uses the
- * root any more. Returns X64_OK; X64_SPACE_IN_USE if an entry that isn't shared isn't 0;
- * X64_BAD_INDICES. */
+ * below shared entries (x64_space_take_range, which returns their frames), and clean up;
+ * x64_space_drop does both, and returns no frames. And no processor uses the root any more. Returns
+ * X64_OK; X64_SPACE_IN_USE if an entry that isn't shared isn't 0; X64_BAD_INDICES. */
 X64_NODISCARD
 static inline uint32_t x64_space_give_up(const x64_space *space, x64_pool *pool);
 
@@ -921,8 +938,9 @@ static inline uint32_t x64_space_access(const x64_space *space, const x64_contro
 /*
  * Returns what has to be flushed after a call that returned this status: one of the X64_FLUSH_
  * numbers, by the table under TABLES THAT A PROCESSOR USES. `call` is one of the X64_CALL_ numbers.
- * `parent_flags` are those of a map, and mean nothing for other calls. For a number that is no call
- * it returns X64_FLUSH_EVERYTHING, unless the status is X64_NOT_ALLOWED or an X64_BAD_ status.
+ * `parent_flags` are those of a map, and mean nothing for other calls; pass 0 for x64_space_map,
+ * x64_space_map_list and x64_space_map_range. For a number that is no call it returns
+ * X64_FLUSH_EVERYTHING, unless the status is X64_NOT_ALLOWED or an X64_BAD_ status.
  *
  * It is proved that this is the least flush that settles all that the model makes due after a call
  * (flush_after in crates/x86_64_model/specs/Flushing.antt), and of the model that such flushes are
@@ -944,8 +962,9 @@ uint32_t x64_flush_after(uint32_t call, uint64_t parent_flags, uint32_t status);
  * Returns what has to be flushed after the word of an entry of a level, which was `old`, was
  * exchanged for `word` by one atomic instruction (x86_64_paging_live.h has such exchanges):
  * X64_FLUSH_NOTHING, X64_FLUSH_PAGE (INVLPG of an address in the page), or X64_FLUSH_EVERYTHING if
- * the entry names a table. Level 1 is that of tables whose entries map pages of 4 KiB. TABLES THAT
- * A PROCESSOR USES says which processors flush, and when.
+ * the entry names a table. Level 1 is that of tables whose entries map pages of 4 KiB;
+ * x64_level_of(size) is that of a page. TABLES THAT A PROCESSOR USES says which processors flush,
+ * and when.
  *
  * It is nothing if `old` lacks X64_PRESENT, since a processor caches no such entry. Else it is
  * nothing if the address, X64_HUGE_PAGE and the bits 3, 4, 8 and 59 to 62 stay, none of PRESENT,

@@ -13,9 +13,10 @@
  * WHICH WORDS ARE YOURS
  *
  * An entry that names no table is the caller's to change: at level 1 it may become any word at all,
- * with X64_PRESENT or without it, such as the number of a place in a swap file; at levels 2 and 3
- * it may become 0 or any word with X64_HUGE_PAGE. An entry that names a table may get other flags
- * but X64_HUGE_PAGE, and keeps its address. The hierarchy stays valid, and the pool fits as before.
+ * with X64_PRESENT or without it, such as the number of a place in a swap file (shifted, so that
+ * X64_PRESENT stays clear, and not 0, which is an unused entry); at levels 2 and 3 it may become 0
+ * or any word with X64_HUGE_PAGE. An entry that names a table may get other flags but
+ * X64_HUGE_PAGE, and keeps its address. The hierarchy stays valid, and the pool fits as before.
  * x64_may_replace tests it, and the functions refuse everything else with X64_NOT_ALLOWED. An entry
  * of the root that is shared stays as it is: they refuse to change it with X64_SHARED_ENTRY. One
  * condition isn't tested: X64_GLOBAL is set only below such entries.
@@ -39,8 +40,9 @@
  * the frame after the flush. The old word tells already whether the page is dirty, if whatever
  * cleared X64_DIRTY before was flushed: a processor sets it before it writes. If another frame
  * takes the place of a page, one processor may use the old frame while another one uses the new
- * one, until the flush. Where that matters take the page away, flush, and put the other frame
- * there.
+ * one, until the flush. Where that matters, as for copy on write, take the page away, flush, and
+ * put the other frame there. A page that gets X64_WRITABLE or X64_USER_ACCESSIBLE so has it only if
+ * all entries above it have it, which no exchange of the page adds: see x64_space_map.
  *
  * WHAT IS PROVED
  *
@@ -81,10 +83,6 @@ extern "C" {
 /*
  * WORDS
  */
-
-/* The bits of an entry that are the address of a frame. In a page of 2 MiB or 1 GiB bit 12 is PAT,
- * and no part of the address. */
-#define X64_ADDRESS UINT64_C(0x000ffffffffff000)
 
 /* Returns whether a status says that a hierarchy is wrong: its levels, its segments or its root. */
 static inline bool x64_is_bad_hierarchy(uint32_t status) {
@@ -206,7 +204,8 @@ static inline uint32_t x64_space_find_entry(const x64_space *space, uint64_t add
 }
 
 /*
- * Finds a page's own entry, whether it has X64_PRESENT or not, or is 0.
+ * Finds a page's own entry, whether it has X64_PRESENT or not, or is 0. If there is no table for
+ * it, it returns X64_PAGE_NOT_MAPPED: x64_space_map and x64_space_prepare make one.
  *
  * Condition: that of x64_space_find_entry.
  *
@@ -323,8 +322,8 @@ static inline uint32_t x64_space_compare_exchange_entry(const x64_space *space, 
  */
 
 /* Puts another word in the place of the page's entry if that isn't 0, whether it has X64_PRESENT or
- * not, and writes the one that was there to *old. Returns X64_OK; X64_PAGE_NOT_MAPPED if it is 0;
- * X64_NOT_ALLOWED. */
+ * not, and writes the one that was there to *old. Returns X64_OK; X64_PAGE_NOT_MAPPED if it is 0,
+ * which x64_space_find_page and x64_space_compare_exchange_entry replace; X64_NOT_ALLOWED. */
 X64_NODISCARD
 static inline uint32_t x64_space_exchange_page(const x64_space *space, uint64_t page, uint64_t size,
                                          uint64_t word, uint64_t *old) {
