@@ -2,10 +2,8 @@
 #![tactic(auto)]
 
 mod access_line;
-mod aligned;
 mod arguments;
 mod check;
-mod columns;
 mod counted_lines;
 mod destination;
 mod engine;
@@ -15,13 +13,10 @@ mod finder;
 mod flawed_entries;
 mod image;
 mod info;
-mod json_lines;
 mod line_count;
 mod line_output;
 mod lines;
 mod listing;
-mod mode;
-mod names;
 mod noted_controls;
 mod noted_levels;
 mod opening;
@@ -29,7 +24,6 @@ mod output;
 mod picture;
 mod processor_groups;
 mod processors;
-mod registers;
 mod report;
 mod request;
 mod reserved;
@@ -40,8 +34,6 @@ mod start;
 mod telling;
 mod totals;
 mod walk;
-mod walked;
-mod word_read;
 
 pub use destination::Destination;
 pub use engine::run;

@@ -2,7 +2,7 @@
 ghost use Rattle.std.specs.Prelude.{OnOk};
 ghost use Rattle.ptdump_engine.specs.NotedLevels.{noted_levels_text};
 ghost use Rattle.ptdump_engine.specs.Output.{Puts};
-ghost use Rattle.ptdump_engine.specs.Walks.{line};
+ghost use Rattle.ptdump_json.specs.Walks.{line};
 
 use crate::destination::Destination;
 use crate::output::{Output, OutputError};

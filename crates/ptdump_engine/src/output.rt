@@ -99,7 +99,7 @@ impl<'a, W: Destination> Output<'a, W> {
 
 impl<W: Destination> Output<'_, W> {
     ghost use Rattle.ptdump_engine.specs.Output.{IsRefusal, Puts};
-    ghost use Rattle.ptdump_engine.specs.Walks.{line};
+    ghost use Rattle.ptdump_json.specs.Walks.{line};
 
     /// Puts a text in. `write!` and `writeln!` call it.
     ///

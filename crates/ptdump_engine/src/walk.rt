@@ -2,14 +2,12 @@
 ghost use Rattle.std.specs.Prelude.{◌≡◌, OnOk};
 ghost use Rattle.std.specs.List.{flat_map};
 ghost use Rattle.ptdump_engine.specs.Output.{Puts};
-ghost use Rattle.ptdump_engine.specs.Walks as walks;
-ghost use Rattle.ptdump_engine.specs.private.Walked.{text_of_end, text_of_value};
+ghost use Rattle.ptdump_json.specs.Walks as walks;
+ghost use Rattle.ptdump_json.specs.Walked.{text_of_end, text_of_value};
 
-use crate::access_line::limited;
 use crate::destination::Destination;
 use crate::output::{Output, OutputError};
-use crate::walked::{Walk, WalkEnd};
-use crate::word_read::WordRead;
+use ptdump_json::{Walk, WalkEnd, WordRead, limited};
 use x86_64_access::Controls;
 use x86_64_tables::page_table::{PageTableEntry, PageTableFlags, has_flag};
 
@@ -46,7 +44,7 @@ fn write_words<W: Destination>(
 }
 
 /// Writes a word that a walk reads, and if a processor with these settings faults there, that it does.
-#[tactic(auto, unfolding(crate::specs::Walks::word_lines))]
+#[tactic(auto, unfolding(ptdump_json::specs::Walks::word_lines))]
 fn write_word<W: Destination>(
     read: WordRead,
     controls: Controls,
@@ -62,7 +60,7 @@ fn write_word<W: Destination>(
 }
 
 /// Returns true if a processor with these settings faults at a word, since it is present and has a reserved bit.
-#[tactic(auto, using(crate::proofs::AccessLaws::limited_reserved))]
+#[tactic(auto, using(ptdump_json::proofs::AccessLaws::limited_reserved))]
 fn faults_at(controls: Controls, read: WordRead) -> bool
     ensures { result ≡ walks.faults_at controls read }
 {
