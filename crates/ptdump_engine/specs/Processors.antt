@@ -1,14 +1,12 @@
 -- Processors: where the page walks of each processor begin, by QEMU's notes, and which processors have the same tables.
 use Rattle.std.specs.Prelude.{ℕ, ◌+◌, ◌++◌, ◌==◌, ◌&&◌, Bool, true, false, not, nat_lt, if◌then◌else◌, List, [], ◌∷◌, map, filter, slice_get, Option, None, Some, Result, Ok, codes, decimal}
 use Rattle.std.specs.List.{flat_map, join_by, list_any}
-use Rattle.serde_json.specs.Data.{Data, array, object, member, no_members}
-use Rattle.serde_json.specs.View.{items_of}
 use Rattle.x86_64_addr.specs.declared.level_count.Levels.{Levels}
 use Rattle.x86_64_addr.specs.declared.level_count.Levels.TheVariants.{Four, Five}
 use Rattle.x86_64_dump.specs.declared.note.Note.{Note}
 use Rattle.text.specs.Numbers.{hexadecimal}
 use Rattle.ptdump_json.specs.InfoTexts.{mode_told}
-use Rattle.ptdump_json.specs.Json.{json_count, hexadecimal_string, json_line}
+use Rattle.ptdump_json.specs.Json.{json_of_group, json_line}
 use Rattle.ptdump_json.specs.Paging.{mode_of, registers_of}
 use Rattle.ptdump_engine.specs.Start.{start_by_processor}
 use Rattle.ptdump_engine.specs.Steps.{and_then, of_dump}

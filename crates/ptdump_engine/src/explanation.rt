@@ -1,4 +1,4 @@
-//! Explanations of walks that arrive: how large the page is, and which words take rights away.
+//! Explanations of walks. They say how large the page is, and which words take rights away.
 ghost use Rattle.std.specs.Prelude.{◌++◌, Some, codes, if◌then◌else◌, [], OnOk};
 ghost use Rattle.std.specs.List.{flat_map};
 ghost use Rattle.text.specs.Sizes.{size_text};

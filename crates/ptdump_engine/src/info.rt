@@ -18,7 +18,10 @@ use crate::engine::start_for;
 use crate::failure::Failure;
 use crate::output::{Output, OutputError};
 use crate::request::{Form, Outcome, Request};
-use ptdump_json::{DumpFormat, KernelRoot, MemoryRange, NoKernelRoot, NoRoot, Processor, Registers, Root, Start, UnplacedMemory, write_as};
+use ptdump_json::{
+    DumpFormat, KernelRoot, MemoryRange, NoKernelRoot, NoRoot, Processor, Registers, Root, Start,
+    UnplacedMemory, write_as,
+};
 use std::alloc::{AllocError, Global};
 use std::fmt::Display;
 use x86_64_dump::{ByteSource, Dump, DumpError, Fault, Format, Note, Segment};

@@ -1,7 +1,6 @@
 //! The program `ptdump`: reads the page tables of a dump of physical memory, and reports what they map.
 #![tactic(auto)]
 
-mod access_line;
 mod arguments;
 mod check;
 mod counted_lines;
@@ -16,7 +15,6 @@ mod info;
 mod line_count;
 mod line_output;
 mod lines;
-mod listing;
 mod noted_controls;
 mod noted_levels;
 mod opening;

@@ -1,4 +1,4 @@
-//! The number of levels of tables that the dump says where it says the root.
+//! Levels that a dump notes: the number that it says where it says the root.
 ghost use Rattle.std.specs.Prelude.{OnOk};
 ghost use Rattle.ptdump_engine.specs.NotedLevels.{noted_levels_text};
 ghost use Rattle.ptdump_engine.specs.Output.{Puts};

@@ -1,4 +1,4 @@
-//! Output that is collected, and passed on in large pieces.
+//! Collected output. It is passed on in large pieces.
 ghost use Rattle.std.specs.Prelude.{◌≡◌, ◌<◌, IfErr, IfSome, OnOk, length, string_bytes, [], true};
 ghost use Rattle.ptdump_engine.specs.declared.failure.Failure.TheVariants as failures;
 

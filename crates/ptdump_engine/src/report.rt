@@ -13,7 +13,6 @@ ghost use Rattle.ptdump_json.specs.declared.options.Form.TheVariants.{Text};
 ghost use Rattle.ptdump_engine.specs.private.Asked.{mappings_asked};
 ghost use Rattle.ptdump_engine.specs.private.Finding.{some_there, visited_lines};
 
-use crate::access_line::write_access;
 use crate::counted_lines::CountedLines;
 use crate::destination::Destination;
 use crate::explanation::write_explanation;
@@ -21,7 +20,7 @@ use crate::finder::tell_addresses;
 use crate::output::{Output, OutputError};
 use crate::request::{Form, Selection, WalkOptions};
 use crate::telling::{tell_mappings, tell_regions};
-use crate::walk::write_walk;
+use crate::walk::{write_access, write_walk};
 use ptdump_check::Loaded;
 use ptdump_json::{Lines, Listing, walk_to, write_json_walk};
 use std::alloc::Global;

@@ -1,5 +1,5 @@
 -- The values of walks: their texts, their objects, and whether they arrive.
-use Rattle.std.proofs.Common.{◌≡◌, ◌∙◌, ◌++◌, ℕ, Bool, List, Option, None, Some, codes, is_some, map, option_map, unwrap_or, refl, ap, ap₂}
+use Rattle.std.proofs.Common.{◌≡◌, ◌∙◌, ◌++◌, ℕ, Option, None, Some, codes, is_some, map, option_map, unwrap_or, refl, ap, ap₂}
 use Rattle.std.specs.List.{flat_map}
 use Rattle.serde_json.specs.Data.{Data, array, member, object}
 use Rattle.serde_json.specs.View.{items_of}

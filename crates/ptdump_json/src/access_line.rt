@@ -1,4 +1,4 @@
-//! The line that says what a processor does with an access.
+//! Lines on accesses. They say what a processor does with one, and by which controls.
 ghost use Rattle.std.specs.Prelude.{◌≡◌, Some};
 ghost use Rattle.std.specs.Fmt.{WritesOnOk};
 ghost use Rattle.x86_64_access.specs.Accesses.{fault_of, outcome_of};

@@ -1,4 +1,4 @@
-//! What a dump says of its machine, as values: each has a text.
+//! What a dump says of its machine, as values.
 ghost use Rattle.std.specs.Prelude.{◌≡◌, Some, string_bytes};
 ghost use Rattle.std.specs.Fmt.{WritesOnOk};
 ghost use Rattle.ptdump_json.specs.InfoTexts as texts;

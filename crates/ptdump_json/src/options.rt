@@ -1,4 +1,4 @@
-//! How lines are written, and what is asked of walks.
+//! Options of lines and walks.
 ghost use Rattle.std.specs.Prelude.{◌≡◌};
 ghost use Rattle.ptdump_json.specs.Accesses.{source_name};
 

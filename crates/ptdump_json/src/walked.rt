@@ -1,4 +1,4 @@
-//! Walks as values: the words that they read, and how they end.
+//! Walks as values. They have the words that are read, and say how the walk ends.
 ghost use Rattle.std.specs.Prelude.{◌≡◌, ◌++◌, ◌≤◌, ◌+◌, ◌%◌, true, IfOk, OnOk, Some};
 ghost use Rattle.x86_64_model.specs.Mappings.{maps_page as page_mapped};
 ghost use Rattle.x86_64_model.specs.Memory.{words_of, identity_places};

@@ -1,4 +1,4 @@
-//! The words and missing tables of walks, as texts.
+//! Words that walks read. They have a text, and so has a missing table.
 ghost use Rattle.std.specs.Prelude.{Some};
 
 use std::fmt::{Display, Formatter, Result as FmtResult, Write};

@@ -3,7 +3,7 @@ use Rattle.std.specs.Prelude.{Bool, option_map, unwrap_or}
 use Rattle.serde_json.specs.Data.{Data}
 use Rattle.x86_64_access.specs.Accesses.{outcome_of}
 use Rattle.ptdump_json.specs.Accesses.{is_arrived}
-use Rattle.ptdump_json.specs.declared.walks.WalkReport.{WalkReport}
+use Rattle.ptdump_json.specs.declared.json.walks.WalkReport.{WalkReport}
 use Rattle.ptdump_json.specs.Walked.{end_said, is_arrival, json_of_line, json_of_value}
 
 -- The JSON object of the report on a walk, with the access there, if there is one.

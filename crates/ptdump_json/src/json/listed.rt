@@ -5,8 +5,8 @@ ghost use Rattle.ptdump_check.specs.FindingTexts.{rights_at_text};
 ghost use Rattle.ptdump_json.specs.Json as json;
 ghost use Rattle.ptdump_json.specs.private.Objects.{members_in};
 
-use crate::to_json::ToJson;
-use crate::object::Object;
+use super::ToJson;
+use super::object::Object;
 use crate::listing::{ListedMapping, ListedRegion};
 use bitflags::Flags;
 use ptdump_check::RightsAt;

@@ -4,9 +4,9 @@ ghost use Rattle.serde_json.specs.View.{view};
 ghost use Rattle.ptdump_check.specs.declared.findings.finding.Finding.TheVariants.{NamedOften, NotInDump, HugePage, ReservedBits};
 ghost use Rattle.ptdump_json.specs.FindingObjects as objects;
 
-use crate::to_json::ToJson;
-use crate::listed::region_object;
-use crate::object::Object;
+use super::ToJson;
+use super::listed::region_object;
+use super::object::Object;
 use ptdump_check::{Entry, Finding, FindingCount, FlawedRegion, Slot};
 use serde_json::Value;
 use std::alloc::{AllocError, Global};

@@ -4,7 +4,7 @@ use Rattle.ptdump_check.specs.Loaded.{words_loaded}
 use Rattle.ptdump_json.specs.Walks.{walk_of}
 use Rattle.ptdump_json.specs.Walked.{json_of_value}
 use Rattle.ptdump_json.proofs.WalkValues.{asked_there, object_of_walk, value_arrives}
-use Rattle.ptdump_json.proofs.walks.report_on.Goals as goal
+use Rattle.ptdump_json.proofs.json.walks.report_on.Goals as goal
 
 pub returns-clause-json : goal.returns-clause-json
 returns-clause-json g c =

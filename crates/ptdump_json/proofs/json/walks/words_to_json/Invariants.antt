@@ -1,7 +1,7 @@
 use Rattle.std.proofs.Common.{◌≡◌, map, take}
 use Rattle.serde_json.specs.View.{view}
 use Rattle.ptdump_json.specs.Json.{json_of_word}
-use Rattle.ptdump_json.proofs.walks.words_to_json.Given as goal
+use Rattle.ptdump_json.proofs.json.walks.words_to_json.Given as goal
 
 -- the values so far are those of the words so far
 abbrev pub invariant-loop-word : goal.invariant-loop-word

@@ -4,8 +4,8 @@ ghost use Rattle.serde_json.specs.Data.{array};
 ghost use Rattle.serde_json.specs.View.{items_of, view};
 ghost use Rattle.ptdump_json.specs.Json.{json_count};
 
-use crate::to_json::ToJson;
-use crate::object::Object;
+use super::ToJson;
+use super::object::Object;
 use serde_json::Value;
 use std::alloc::{AllocError, Global};
 use x86_64_page::frame::PhysFrame;

@@ -6,11 +6,22 @@ ghost use Rattle.serde_json.specs.Written.{has_float};
 ghost use Rattle.ptdump_json.specs.Json.{json_line};
 ghost use Rattle.ptdump_json.specs.Lines.{line_in};
 
+mod aliased;
+mod findings;
+mod group;
+mod listed;
+mod object;
+mod told;
+mod walks;
+
 use crate::lines::Lines;
 use crate::options::Form;
+pub use group::ProcessorGroup;
+pub use listed::Found;
 use serde_json::Value;
 use std::alloc::{AllocError, Global};
 use std::fmt::Display;
+pub use walks::write_json_walk;
 
 /// What a report says as a JSON object.
 pub trait ToJson {

@@ -5,7 +5,7 @@ use Rattle.serde_json.specs.View.{items_of, view}
 use Rattle.serde_json.specs.declared.value.Value.{the_lemmas}
 use Rattle.serde_json.specs.declared.value.Value as values
 use Rattle.ptdump_json.specs.Json.{json_count}
-use Rattle.ptdump_json.proofs.group.numbers_to_json.Goals as goal
+use Rattle.ptdump_json.proofs.json.group.numbers_to_json.Goals as goal
 
 pub loop-number-preserved : goal.loop-number-preserved
 loop-number-preserved c =

@@ -7,8 +7,8 @@ ghost use Rattle.serde_json.specs.Data.{object as object_of};
 ghost use Rattle.serde_json.specs.View.{view};
 ghost use Rattle.ptdump_json.specs.private.Objects.{members_in};
 
-use crate::to_json::ToJson;
-use crate::object::Object;
+use super::ToJson;
+use super::object::Object;
 use crate::items::{
     DumpFormat, KernelRoot, MemoryRange, NoKernelRoot, NoRoot, Processor, Root, UnplacedMemory,
 };

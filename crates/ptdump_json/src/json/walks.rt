@@ -14,8 +14,8 @@ ghost use Rattle.ptdump_json.specs.private.Objects.{members_in};
 ghost use Rattle.ptdump_json.specs.private.Reported.{json_of_report, report_arrives};
 ghost use Rattle.ptdump_json.specs.Walked.{json_of_line, value_members};
 
-use crate::object::Object;
-use crate::to_json::{ToJson, write_json};
+use super::object::Object;
+use super::{ToJson, write_json};
 use crate::access_line::{AccessLine, access_end, access_name};
 use crate::lines::Lines;
 use crate::options::{ControlsSource, WalkOptions};

@@ -2,8 +2,8 @@
 ghost use Rattle.std.proofs.Common.{refl};
 ghost use Rattle.ptdump_json.specs.FindingObjects.{json_of_aliased};
 
-use crate::to_json::ToJson;
-use crate::object::Object;
+use super::ToJson;
+use super::object::Object;
 use ptdump_check::Aliased;
 use serde_json::Value;
 use std::alloc::{AllocError, Global};

@@ -1,7 +1,7 @@
 use Rattle.std.proofs.Common.{◌≡◌, map, take}
 use Rattle.serde_json.specs.View.{view}
 use Rattle.ptdump_json.specs.Json.{json_count}
-use Rattle.ptdump_json.proofs.group.numbers_to_json.Given as goal
+use Rattle.ptdump_json.proofs.json.group.numbers_to_json.Given as goal
 
 -- the values so far are those of the numbers so far
 abbrev pub invariant-loop-number : goal.invariant-loop-number
