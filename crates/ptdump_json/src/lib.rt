@@ -16,7 +16,7 @@ mod start;
 mod walked;
 mod word_read;
 
-pub use access_line::{access_end, limited};
+pub use access_line::{AccessLine, access_end, limited};
 pub use items::{
     DumpFormat, KernelRoot, MemoryRange, NoKernelRoot, NoRoot, Processor, Root, ToldText,
     UnplacedMemory,
