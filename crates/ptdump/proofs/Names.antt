@@ -5,7 +5,7 @@ use Rattle.std.specs.Str.{bytes_eq}
 use Rattle.x86_64_access.specs.declared.request.Access.{Access}
 use Rattle.x86_64_access.specs.declared.request.AccessKind.{AccessKind}
 use Rattle.x86_64_access.specs.declared.request.AccessKind.TheVariants.{Read, Write, Fetch}
-use Rattle.ptdump_engine.specs.Accesses.{access_name, kind_name}
+use Rattle.ptdump_json.specs.Accesses.{access_name, kind_name}
 use Rattle.ptdump.specs.Asked.{is_listed}
 use Rattle.ptdump.specs.Reasons.{command_names}
 

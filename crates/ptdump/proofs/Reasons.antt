@@ -5,7 +5,7 @@ use Rattle.std.specs.Borrow.{Bor}
 use Rattle.clap.specs.Matches.{first_value}
 use Rattle.clap.specs.declared.parser.matches.Found.{Found}
 use Rattle.ptdump_check.specs.declared.checking.AddressRange.{AddressRange}
-use Rattle.ptdump_engine.specs.Accesses.{access_name}
+use Rattle.ptdump_json.specs.Accesses.{access_name}
 use Rattle.ptdump_engine.specs.declared.failure.Failure.TheVariants.{OutOfMemory}
 use Rattle.ptdump.specs.DirectMaps.{IsAddressRange, IsDirectMap}
 use Rattle.ptdump.specs.Options.{option_name}

@@ -5,10 +5,10 @@ use Rattle.std.specs.List.{find, list_any}
 use Rattle.std.specs.Str.{bytes_eq}
 use Rattle.clap.specs.Matches.{first_value, matched_of, one_text, raw_values}
 use Rattle.clap.specs.declared.parser.matches.Found.{Found}
-use Rattle.ptdump_engine.specs.Accesses.{access_name}
-use Rattle.ptdump_engine.specs.declared.request.ControlsSource.{ControlsSource}
-use Rattle.ptdump_engine.specs.declared.request.ControlsSource.TheVariants.{Given, Assumed}
-use Rattle.ptdump_engine.specs.declared.request.WalkOptions.{WalkOptions}
+use Rattle.ptdump_json.specs.Accesses.{access_name}
+use Rattle.ptdump_json.specs.declared.options.ControlsSource.{ControlsSource}
+use Rattle.ptdump_json.specs.declared.options.ControlsSource.TheVariants.{Given, Assumed}
+use Rattle.ptdump_json.specs.declared.options.WalkOptions.{WalkOptions}
 use Rattle.ptdump.specs.Options.{IsFlag}
 use Rattle.x86_64_access.specs.declared.controls.Controls.{Controls}
 use Rattle.x86_64_access.specs.declared.request.Access.{Access}

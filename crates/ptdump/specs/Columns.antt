@@ -1,8 +1,8 @@
 -- Columns: the columns that --columns asks for.
 use Rattle.std.specs.Prelude.{ℕ, ◌&&◌, ◌||◌, Bool, if◌then◌else◌, List, Option, None, Some, codes}
 use Rattle.std.specs.Str.{bytes_eq}
-use Rattle.ptdump_engine.specs.declared.request.Columns.{Columns}
-use Rattle.ptdump_engine.specs.declared.request.Columns.TheVariants.{Plain, Aligned}
+use Rattle.ptdump_json.specs.declared.options.Columns.{Columns}
+use Rattle.ptdump_json.specs.declared.options.Columns.TheVariants.{Plain, Aligned}
 
 -- Whether columns are aligned, by the word of --columns: always if it is `aligned`, and if standard output is a terminal if it is
 -- `auto` or missing.

@@ -3,7 +3,7 @@ use Rattle.std.specs.Prelude.{◌≡◌, ◌≤◌, ℕ, true, false, List, [], 
 use Rattle.clap.specs.Matches.{first_value}
 use Rattle.clap.specs.declared.parser.matches.Found.{Found}
 use Rattle.ptdump_check.specs.declared.checking.AddressRange.{AddressRange}
-use Rattle.ptdump_engine.specs.Accesses.{access_name}
+use Rattle.ptdump_json.specs.Accesses.{access_name}
 use Rattle.ptdump_engine.specs.declared.failure.Failure.TheVariants.{OutOfMemory}
 use Rattle.ptdump.specs.Asked.{is_listed, setting_names}
 use Rattle.ptdump.specs.DirectMaps.{IsAddressRange}

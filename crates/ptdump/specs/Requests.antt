@@ -7,10 +7,10 @@ use Rattle.ptdump_engine.specs.declared.request.AreaNames.{AreaNames}
 use Rattle.ptdump_engine.specs.declared.request.AreaNames.TheVariants.{OfKernel, Always, By}
 use Rattle.ptdump_engine.specs.declared.request.Command.{Command}
 use Rattle.ptdump_engine.specs.declared.request.Command.TheVariants.{Regions, Pages, Walk, Find, Check, Image, Picture, Info}
-use Rattle.ptdump_engine.specs.declared.request.Form.{Form}
-use Rattle.ptdump_engine.specs.declared.request.Form.TheVariants.{Text, Json}
+use Rattle.ptdump_json.specs.declared.options.Form.{Form}
+use Rattle.ptdump_json.specs.declared.options.Form.TheVariants.{Text, Json}
 use Rattle.x86_64_addr.specs.declared.level_count.Levels.{Levels}
-use Rattle.ptdump_engine.specs.Start.{level_count}
+use Rattle.ptdump_json.specs.Paging.{level_count}
 use Rattle.ptdump_engine.specs.declared.request.Request.{Request}
 use Rattle.ptdump_engine.specs.declared.failure.Failure.TheVariants.{OutOfMemory}
 use Rattle.ptdump.specs.Asked.{AreAsked, IsBits}

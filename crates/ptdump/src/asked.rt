@@ -6,8 +6,8 @@ ghost use Rattle.clap.specs.Matches.{first_value, found_of};
 ghost use Rattle.ptdump.specs.Asked.{AreAsked, AreControls, IsAccess, IsBits, is_listed, setting_names, source_of, texts_of, usual_names};
 ghost use Rattle.ptdump.specs.Reasons.{IsMistake, IsNoSetting};
 ghost use Rattle.ptdump.specs.declared.stop.Stop.TheVariants.{NoAccess};
-ghost use Rattle.ptdump_engine.specs.Accesses.{access_name};
-ghost use Rattle.ptdump_engine.specs.declared.request.WalkOptions.{WalkOptions};
+ghost use Rattle.ptdump_json.specs.Accesses.{access_name};
+ghost use Rattle.ptdump_json.specs.declared.options.WalkOptions.{WalkOptions};
 ghost use Rattle.x86_64_access.specs.declared.controls.Controls.{Controls};
 ghost use Rattle.x86_64_access.specs.declared.request.Access.{Access as Asked};
 

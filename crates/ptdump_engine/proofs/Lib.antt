@@ -1,16 +1,9 @@
-pub mod AccessLaws
 pub mod Alikes
 pub mod BothLines
 pub mod Counting
 pub mod Failing
 pub mod Listed
-pub mod Results
-pub mod WalkLaws
-pub mod WalkValues
-pub mod WordByWord
-pub mod Walking
 pub mod Wholly
-pub mod Named
 pub mod Untold
 pub mod Resolved
 pub mod Counted
@@ -22,5 +15,5 @@ pub mod Processing
 pub mod Turns
 pub mod OfProcessors
 pub mod Tests
-pub mod Padded
 pub mod Told
+pub mod WalkTexts

@@ -6,8 +6,8 @@ use Rattle.ptdump_engine.specs.declared.request.Command.{Command}
 use Rattle.ptdump_engine.specs.declared.request.Command.TheVariants as commands
 use Rattle.linux_areas.specs.declared.layout.Layout.{Layout}
 use Rattle.ptdump_engine.specs.NamedAreas.{layout_in}
-use Rattle.ptdump_engine.specs.declared.request.Columns.{Columns}
-use Rattle.ptdump_engine.specs.declared.request.Form.{Form}
+use Rattle.ptdump_json.specs.declared.options.Columns.{Columns}
+use Rattle.ptdump_json.specs.declared.options.Form.{Form}
 use Rattle.ptdump_engine.specs.declared.request.Request.{Request}
 
 -- a fact about the value of an option that has one

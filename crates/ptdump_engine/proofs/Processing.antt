@@ -8,12 +8,12 @@ use Rattle.x86_64_dump.specs.declared.error.DumpError.TheVariants as errors
 use Rattle.x86_64_dump.specs.declared.error.Fault.{Fault}
 use Rattle.x86_64_dump.specs.declared.note.Note.{Note}
 use Rattle.ptdump_engine.specs.Failure.{failure_of}
-use Rattle.ptdump_engine.specs.Start.{registers_of}
+use Rattle.ptdump_json.specs.Paging.{registers_of}
 use Rattle.ptdump_engine.specs.Processors.{processor_with, processors_from}
 use Rattle.ptdump_engine.specs.Steps.{FailsBy, and_then, of_dump}
 use Rattle.ptdump_engine.specs.declared.failure.Failure.{Failure}
 use Rattle.ptdump_engine.specs.declared.processors.Processor.{Processor}
-use Rattle.ptdump_engine.specs.declared.registers.Registers.{Registers}
+use Rattle.ptdump_json.specs.declared.registers.Registers.{Registers}
 
 -- processors, and behind them those that are found
 abbrev pub onto : List Processor → Result (List Processor) Failure → Result (List Processor) Failure

@@ -6,8 +6,8 @@ use Rattle.ptdump_engine.specs.NotedControls.{command_by}
 use Rattle.ptdump_engine.specs.Program.{EndsByTotals, is_image}
 use Rattle.ptdump_engine.specs.Reserved.{reserved_note}
 use Rattle.ptdump_engine.specs.Totals.{AreTotals, totals_text}
-use Rattle.ptdump_engine.specs.Walks.{line}
-use Rattle.ptdump_engine.specs.declared.registers.Registers.{Registers}
+use Rattle.ptdump_json.specs.Walks.{line}
+use Rattle.ptdump_json.specs.declared.registers.Registers.{Registers}
 use Rattle.ptdump_engine.specs.declared.request.Command.{Command}
 use Rattle.ptdump_engine.specs.declared.request.Command.TheVariants as commands
 use Rattle.ptdump_engine.specs.declared.totals.Totals.{Totals}

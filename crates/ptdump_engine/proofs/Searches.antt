@@ -9,8 +9,8 @@ use Rattle.x86_64_model.proofs.Lemmas.Mappings.Placed.{mappings_fit}
 use Rattle.x86_64_mappings.specs.Wanted.{leads_to}
 use Rattle.ptdump_check.proofs.Asked.{inside}
 use Rattle.ptdump_engine.specs.Reports.{address_line, addresses_text}
-use Rattle.ptdump_engine.specs.Lines.{found_line}
-use Rattle.ptdump_engine.specs.declared.request.Form.{Form}
+use Rattle.ptdump_json.specs.Lines.{found_line}
+use Rattle.ptdump_json.specs.declared.options.Form.{Form}
 use Rattle.ptdump_engine.specs.private.Finding.{some_there, visited_lines}
 
 same_lines : (form : Form) (L a : ℕ) (ms : List Mapping) → AllByRecursion (λ m. m.start + m.size ≤ position_count L) ms

@@ -19,7 +19,7 @@ use Rattle.ptdump_engine.specs.declared.request.Command.{Command}
 use Rattle.ptdump_engine.specs.declared.request.Command.TheVariants as commands
 use Rattle.ptdump_engine.specs.declared.request.Request.{Request}
 use Rattle.x86_64_mappings.specs.declared.selection.Selection.{Selection}
-use Rattle.ptdump_engine.specs.declared.start.Start.{Start}
+use Rattle.ptdump_json.specs.declared.start.Start.{Start}
 
 -- it isn't that of a read or a write
 abbrev IsOfTest : Failure → Type 0

@@ -4,7 +4,7 @@ use Rattle.std.specs.List.{cons_option, filter_map, flat_map}
 use Rattle.x86_64_model.specs.Mappings.{Mapping}
 use Rattle.ptdump_engine.specs.Said.{Said, line_of}
 use Rattle.ptdump_engine.specs.declared.counted_lines.CountedLines.{CountedLines}
-use Rattle.ptdump_engine.specs.declared.request.Form.{Form}
+use Rattle.ptdump_json.specs.declared.options.Form.{Form}
 use Rattle.ptdump_engine.specs.declared.telling.Teller.{Teller}
 use Rattle.ptdump_engine.specs.private.Counting.{AreCounted}
 use Rattle.ptdump_engine.specs.private.Finding.{some_there}

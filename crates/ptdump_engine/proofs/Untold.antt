@@ -19,17 +19,18 @@ use Rattle.x86_64_addr.specs.declared.level_count.Levels.{Levels}
 use Rattle.x86_64_model.specs.Memory.{Words}
 use Rattle.ptdump_engine.specs.FailureTexts.{failure_text}
 use Rattle.ptdump_engine.specs.Program.{argument_failure, is_info, is_walk, root_failure, start_for}
-use Rattle.ptdump_engine.specs.Start.{in_64_bit, kernel_start, levels_in_file, mode_of, note_needed, note_of, paging_registers, registers_of, start_by, start_of, start_with}
+use Rattle.ptdump_json.specs.Paging.{mode_of, registers_of}
+use Rattle.ptdump_engine.specs.Start.{in_64_bit, kernel_start, levels_in_file, note_needed, note_of, paging_registers, start_by, start_of, start_with}
 use Rattle.ptdump_engine.specs.Steps.{FailsBy, MayBeForced, and_then, of_dump, unless_failure}
 use Rattle.ptdump_engine.specs.declared.failure.Failure.{Failure}
 use Rattle.ptdump_engine.specs.declared.failure.Failure.TheVariants as failures
-use Rattle.ptdump_engine.specs.declared.mode.Mode.{Mode}
-use Rattle.ptdump_engine.specs.declared.mode.Mode.TheVariants.{NoPaging, Paging32, Paging64}
-use Rattle.ptdump_engine.specs.declared.registers.Registers.{Registers}
+use Rattle.ptdump_json.specs.declared.mode.Mode.{Mode}
+use Rattle.ptdump_json.specs.declared.mode.Mode.TheVariants.{NoPaging, Paging32, Paging64}
+use Rattle.ptdump_json.specs.declared.registers.Registers.{Registers}
 use Rattle.ptdump_engine.specs.declared.request.Command.{Command}
 use Rattle.ptdump_engine.specs.declared.request.Command.TheVariants as commands
 use Rattle.ptdump_engine.specs.declared.request.Request.{Request}
-use Rattle.ptdump_engine.specs.declared.start.Start.{Start}
+use Rattle.ptdump_json.specs.declared.start.Start.{Start}
 
 -- if it is a failure, it has a text
 abbrev pub HasText : {A : Type 0} → Result A Failure → Type 0

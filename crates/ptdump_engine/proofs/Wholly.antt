@@ -15,39 +15,39 @@ use Rattle.x86_64_model.specs.PageWalk.{page_walk}
 use Rattle.x86_64_model.specs.Position.{position_count, raw}
 use Rattle.x86_64_model.specs.Regions.{regions_in}
 use Rattle.x86_64_mappings.specs.Wanted.{leads_to}
-use Rattle.ptdump_engine.specs.Explanations.{explanation_text}
+use Rattle.ptdump_json.specs.Explanations.{explanation_text}
 use Rattle.ptdump_engine.specs.Output.{Puts, put_in}
 use Rattle.ptdump_engine.specs.Failure.{failure_of}
 use Rattle.ptdump_engine.specs.CheckReports.{check_text, line_count, said_of_count}
-use Rattle.ptdump_engine.specs.Json.{json_line, json_of_access, json_of_asked, json_of_walk}
-use Rattle.ptdump_engine.specs.Lines.{mapping_line, region_line, walk_lines}
+use Rattle.ptdump_json.specs.Json.{json_line, json_of_access, json_of_asked, json_of_walk}
+use Rattle.ptdump_json.specs.Lines.{mapping_line, region_line, walk_lines}
 use Rattle.ptdump_engine.specs.Program.{DumpedMachine, Opened, ReportsAll, ReportsOf, RunsAs, RunsOnDump, RunsOnProcessors, RunsOnTables, completeness_of, contents_for, dump_for, info_of, machine_for, opened_for, processors_for, report_in, report_of, start_for}
 use Rattle.ptdump_engine.specs.Reports.{address_line, addresses_text, are_several, find_text, heading_line, none_line, pages_text, regions_text, walks_text}
 use Rattle.ptdump_engine.specs.Said.{line_of}
 use Rattle.x86_64_mappings.specs.Selections.{is_mapping_selected, is_selected}
 use Rattle.ptdump_engine.specs.Steps.{FailsBy, MayBeForced, and_then, of_dump}
-use Rattle.ptdump_engine.specs.Walks.{walk_text}
+use Rattle.ptdump_json.specs.Walks.{walk_text}
 use Rattle.ptdump_engine.specs.declared.failure.Failure.{Failure}
 use Rattle.ptdump_engine.specs.declared.output.Output.{Output}
 use Rattle.ptdump_engine.specs.declared.processors.Processor.{Processor}
 use Rattle.linux_areas.specs.declared.layout.Layout.{Layout}
 use Rattle.ptdump_engine.specs.NamedAreas.{layout_in}
-use Rattle.ptdump_engine.specs.declared.request.Columns.{Columns}
+use Rattle.ptdump_json.specs.declared.options.Columns.{Columns}
 use Rattle.ptdump_engine.specs.declared.request.Command.{Command}
 use Rattle.ptdump_engine.specs.declared.request.Command.TheVariants as commands
-use Rattle.ptdump_engine.specs.declared.request.ControlsSource.{ControlsSource}
-use Rattle.ptdump_engine.specs.declared.request.Form.{Form}
-use Rattle.ptdump_engine.specs.declared.request.Form.TheVariants.{Text, Json}
+use Rattle.ptdump_json.specs.declared.options.ControlsSource.{ControlsSource}
+use Rattle.ptdump_json.specs.declared.options.Form.{Form}
+use Rattle.ptdump_json.specs.declared.options.Form.TheVariants.{Text, Json}
 use Rattle.ptdump_engine.specs.declared.request.Outcome.{Outcome}
-use Rattle.ptdump_engine.specs.declared.request.WalkOptions.{WalkOptions}
+use Rattle.ptdump_json.specs.declared.options.WalkOptions.{WalkOptions}
 use Rattle.x86_64_access.specs.declared.controls.Controls.{Controls}
 use Rattle.x86_64_access.specs.declared.request.Access.{Access}
 use Rattle.ptdump_engine.specs.declared.request.Request.{Request}
-use Rattle.ptdump_engine.specs.declared.start.Start.{Start}
-use Rattle.ptdump_engine.proofs.AccessLaws.{same_asked, same_outcome, same_there}
+use Rattle.ptdump_json.specs.declared.start.Start.{Start}
+use Rattle.ptdump_json.proofs.AccessLaws.{same_asked, same_outcome, same_there}
 use Rattle.ptdump_engine.proofs.Failing.{dump_fails, dump_unread, fails_then, forced_fails, forced_first}
 use Rattle.ptdump_engine.proofs.SameLines.{same_lines}
-use Rattle.ptdump_engine.proofs.WalkLaws.{same_walk}
+use Rattle.ptdump_json.proofs.WalkLaws.{same_walk}
 
 -- a consequence of a fact about the value of an option
 pub if_some : {X : Type 0} {P Q : X → Type 0} (o : Option X) → ((x : X) → P x → Q x) → IfSome o P → IfSome o Q

@@ -15,9 +15,9 @@ use Rattle.ptdump_check.specs.declared.findings.aliased.Aliased.{Aliased}
 use Rattle.ptdump_check.specs.declared.findings.finding.Finding.{Finding}
 use Rattle.ptdump_check.specs.declared.findings.flaw.Flaw.{Flaw}
 use Rattle.ptdump_check.specs.declared.findings.flaw.Flaw.TheVariants.{WritableAndExecutable, UserInUpperHalf}
-use Rattle.ptdump_engine.specs.FindingObjects.{json_of_aliased, json_of_count, json_of_finding, json_of_flawed}
+use Rattle.ptdump_json.specs.FindingObjects.{json_of_aliased, json_of_count, json_of_finding, json_of_flawed}
 use Rattle.ptdump_engine.specs.Said.{Said, line_of}
-use Rattle.ptdump_engine.specs.declared.request.Form.{Form}
+use Rattle.ptdump_json.specs.declared.options.Form.{Form}
 
 -- ---- regions
 

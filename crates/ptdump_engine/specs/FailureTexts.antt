@@ -4,14 +4,8 @@ use Rattle.x86_64_dump.specs.FaultTexts.{dump_fault_text}
 use Rattle.text.specs.Numbers.{hexadecimal}
 use Rattle.ptdump_engine.specs.declared.failure.Failure.{Failure}
 use Rattle.ptdump_engine.specs.declared.failure.Failure.TheVariants.{NoCr3, VirtualBox, NoProcessor, NoProcessors, WrongMode, NoRoot, Dump}
-use Rattle.ptdump_engine.specs.declared.mode.Mode.{Mode}
-use Rattle.ptdump_engine.specs.declared.mode.Mode.TheVariants.{NoPaging, Paging32, Paging64}
-
--- The text of a mode of paging, with the bit of CR0 or CR4 that shows it unless it is 64-bit paging.
-abbrev pub mode_told : Mode → List ℕ
-mode_told NoPaging = codes "has no paging, as bit 31 of its CR0 is 0"
-mode_told Paging32 = codes "has 32-bit paging, as bit 5 of its CR4 is 0"
-mode_told Paging64 = codes "has 64-bit paging"
+use Rattle.ptdump_json.specs.InfoTexts.{mode_told}
+use Rattle.ptdump_json.specs.declared.mode.Mode.{Mode}
 
 -- The text of the failure that the file has no note of processor `cpu`, but `count` notes of processors.
 unfoldable pub no_processor_text : (cpu count : ℕ) → List ℕ

@@ -13,15 +13,15 @@ use Rattle.x86_64_dump.specs.declared.note.Note.{Note}
 use Rattle.x86_64_dump.specs.declared.segment.Segment.{Segment}
 use Rattle.x86_64_dump.specs.declared.vmcoreinfo.Kernel.{Kernel}
 use Rattle.ptdump_engine.specs.FailureTexts.{failure_text}
-use Rattle.ptdump_engine.specs.InfoObjects.{json_of_format, json_of_kernel, json_of_memory, json_of_no_kernel, json_of_no_root, json_of_processor, json_of_root, json_of_unplaced}
-use Rattle.ptdump_engine.specs.InfoTexts.{format_text, kernel_text, memory_text, no_kernel_text, no_root_text, processor_text, root_text, unplaced_text}
-use Rattle.ptdump_engine.specs.Lines.{line_in}
+use Rattle.ptdump_json.specs.InfoObjects.{json_of_format, json_of_kernel, json_of_memory, json_of_no_kernel, json_of_no_root, json_of_processor, json_of_root, json_of_unplaced}
+use Rattle.ptdump_json.specs.InfoTexts.{format_text, kernel_text, memory_text, no_kernel_text, no_root_text, processor_text, root_text, unplaced_text}
+use Rattle.ptdump_json.specs.Lines.{line_in}
 use Rattle.ptdump_engine.specs.MemoryRanges.{last_address}
-use Rattle.ptdump_engine.specs.Start.{registers_of}
+use Rattle.ptdump_json.specs.Paging.{registers_of}
 use Rattle.ptdump_engine.specs.declared.failure.Failure.{Failure}
-use Rattle.ptdump_engine.specs.declared.registers.Registers.{Registers}
-use Rattle.ptdump_engine.specs.declared.request.Form.{Form}
-use Rattle.ptdump_engine.specs.declared.start.Start.{Start}
+use Rattle.ptdump_json.specs.declared.registers.Registers.{Registers}
+use Rattle.ptdump_json.specs.declared.options.Form.{Form}
+use Rattle.ptdump_json.specs.declared.start.Start.{Start}
 
 -- The line of the dump's format, in a form.
 abbrev pub format_line : Form → Format → List ℕ

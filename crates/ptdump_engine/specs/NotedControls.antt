@@ -8,16 +8,16 @@ use Rattle.x86_64_dump.specs.Notes.{processors_of}
 use Rattle.x86_64_dump.specs.declared.error.Fault.{Fault}
 use Rattle.x86_64_dump.specs.declared.note.Note.{Note}
 use Rattle.x86_64_model.specs.Entry.{has}
-use Rattle.ptdump_engine.specs.Start.{mode_of, registers_of}
-use Rattle.ptdump_engine.specs.declared.mode.Mode.{Mode}
-use Rattle.ptdump_engine.specs.declared.mode.Mode.TheVariants.{Paging64}
-use Rattle.ptdump_engine.specs.declared.registers.Registers.{Registers}
+use Rattle.ptdump_json.specs.Paging.{mode_of, registers_of}
+use Rattle.ptdump_json.specs.declared.mode.Mode.{Mode}
+use Rattle.ptdump_json.specs.declared.mode.Mode.TheVariants.{Paging64}
+use Rattle.ptdump_json.specs.declared.registers.Registers.{Registers}
 use Rattle.ptdump_engine.specs.declared.request.Command.{Command}
 use Rattle.ptdump_engine.specs.declared.request.Command.TheVariants as commands
-use Rattle.ptdump_engine.specs.declared.request.ControlsSource.{ControlsSource}
-use Rattle.ptdump_engine.specs.declared.request.ControlsSource.TheVariants.{Noted, Assumed}
+use Rattle.ptdump_json.specs.declared.options.ControlsSource.{ControlsSource}
+use Rattle.ptdump_json.specs.declared.options.ControlsSource.TheVariants.{Noted, Assumed}
 use Rattle.ptdump_engine.specs.declared.request.Request.{Request}
-use Rattle.ptdump_engine.specs.declared.request.WalkOptions.{WalkOptions}
+use Rattle.ptdump_json.specs.declared.options.WalkOptions.{WalkOptions}
 
 -- The registers if the mode is 64-bit paging, or else None.
 abbrev pub registers_if : Mode → Registers → Option Registers

@@ -2,7 +2,7 @@
 use Rattle.std.specs.Prelude.{ℕ, List, [], codes, Option, Some}
 use Rattle.x86_64_addr.specs.declared.level_count.Levels.{Levels}
 use Rattle.x86_64_addr.specs.declared.level_count.Levels.TheVariants.{Four, Five}
-use Rattle.ptdump_engine.specs.Walks.{line}
+use Rattle.ptdump_json.specs.Walks.{line}
 
 -- The line that the dump has another number of levels than the request, or nothing if one is missing or they are equal.
 abbrev pub noted_levels_text : (given noted : Option Levels) → List ℕ

@@ -1,25 +1,24 @@
 -- Processors: where the page walks of each processor begin, by QEMU's notes, and which processors have the same tables.
 use Rattle.std.specs.Prelude.{ℕ, ◌+◌, ◌++◌, ◌==◌, ◌&&◌, Bool, true, false, not, nat_lt, if◌then◌else◌, List, [], ◌∷◌, map, filter, slice_get, Option, None, Some, Result, Ok, codes, decimal}
 use Rattle.std.specs.List.{flat_map, join_by, list_any}
-use Rattle.serde_json.specs.Data.{Data, array, object, member, no_members}
-use Rattle.serde_json.specs.View.{items_of}
 use Rattle.x86_64_addr.specs.declared.level_count.Levels.{Levels}
 use Rattle.x86_64_addr.specs.declared.level_count.Levels.TheVariants.{Four, Five}
 use Rattle.x86_64_dump.specs.declared.note.Note.{Note}
 use Rattle.text.specs.Numbers.{hexadecimal}
-use Rattle.ptdump_engine.specs.FailureTexts.{mode_told}
-use Rattle.ptdump_engine.specs.Json.{json_count, hexadecimal_string, json_line}
-use Rattle.ptdump_engine.specs.Start.{mode_of, registers_of, start_by_processor}
+use Rattle.ptdump_json.specs.InfoTexts.{mode_told}
+use Rattle.ptdump_json.specs.Json.{json_of_group, json_line}
+use Rattle.ptdump_json.specs.Paging.{mode_of, registers_of}
+use Rattle.ptdump_engine.specs.Start.{start_by_processor}
 use Rattle.ptdump_engine.specs.Steps.{and_then, of_dump}
-use Rattle.ptdump_engine.specs.Walks.{line}
+use Rattle.ptdump_json.specs.Walks.{line}
 use Rattle.ptdump_engine.specs.declared.failure.Failure.{Failure}
 use Rattle.ptdump_engine.specs.declared.failure.Failure.TheVariants as failures
-use Rattle.ptdump_engine.specs.declared.mode.Mode.{Mode}
-use Rattle.ptdump_engine.specs.declared.mode.Mode.TheVariants.{Paging64}
+use Rattle.ptdump_json.specs.declared.mode.Mode.{Mode}
+use Rattle.ptdump_json.specs.declared.mode.Mode.TheVariants.{Paging64}
 use Rattle.ptdump_engine.specs.declared.processors.Processor.{Processor}
-use Rattle.ptdump_engine.specs.declared.registers.Registers.{Registers}
-use Rattle.ptdump_engine.specs.declared.request.Form.{Form}
-use Rattle.ptdump_engine.specs.declared.request.Form.TheVariants.{Text, Json}
+use Rattle.ptdump_json.specs.declared.registers.Registers.{Registers}
+use Rattle.ptdump_json.specs.declared.options.Form.{Form}
+use Rattle.ptdump_json.specs.declared.options.Form.TheVariants.{Text, Json}
 
 -- ---- each processor
 
@@ -99,12 +98,6 @@ left_out_line p = if has_tables p then [] else line (left_out_told p.cpu p.mode)
 -- A line for each of the processors that has no tables.
 abbrev pub left_out_text : List Processor → List ℕ
 left_out_text ps = flat_map left_out_line ps
-
--- The JSON object of a root: the numbers of the processors that have it, and its address.
-abbrev pub json_of_group : (cpus : List ℕ) → (root : ℕ) → Data
-json_of_group cpus root = object (
-    member (codes "cpus") (array (items_of (map json_count cpus)))
-    (member (codes "root") (hexadecimal_string root) no_members))
 
 -- The line above the report on a root, in a form: the numbers of the processors that have it, and its address.
 abbrev pub heading_text : Form → (cpus : List ℕ) → (root : ℕ) → List ℕ

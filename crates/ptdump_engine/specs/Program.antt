@@ -23,7 +23,7 @@ use Rattle.x86_64_model.specs.Position.{lower_half}
 use Rattle.ptdump_check.specs.declared.checking.AddressRange.{AddressRange}
 use Rattle.ptdump_engine.specs.CheckReports.{check_text, finds_nothing}
 use Rattle.ptdump_engine.specs.Info.{info_in}
-use Rattle.ptdump_engine.specs.InfoTexts.{text_told}
+use Rattle.ptdump_json.specs.InfoTexts.{text_told}
 pub use Rattle.ptdump_engine.specs.MemoryRanges.{last_address}
 use Rattle.ptdump_engine.specs.NamedAreas.{layout_in}
 use Rattle.ptdump_engine.specs.NotedLevels.{noted_levels_text}
@@ -31,25 +31,25 @@ use Rattle.ptdump_engine.specs.Processors.{cpus_with, firsts_of, heading_text, l
 use Rattle.ptdump_engine.specs.Reports.{regions_text, pages_text, walks_text, find_text, all_arrive, all_found, are_several}
 use Rattle.ptdump_engine.specs.Reserved.{reserved_note}
 use Rattle.ptdump_engine.specs.Resolved.{resolved}
-pub use Rattle.ptdump_engine.specs.Start.{level_count}
+pub use Rattle.ptdump_json.specs.Paging.{level_count}
 use Rattle.ptdump_engine.specs.Start.{start_of}
 use Rattle.ptdump_engine.specs.Steps.{FailsBy, InTurn, MayBeForced, and_then, of_dump, unless_failure}
 use Rattle.ptdump_engine.specs.Totals.{AreTotals, totals_text}
-use Rattle.ptdump_engine.specs.Walks.{line}
+use Rattle.ptdump_json.specs.Walks.{line}
 use Rattle.ptdump_engine.specs.declared.failure.Failure.{Failure}
 use Rattle.ptdump_engine.specs.declared.failure.Failure.TheVariants as failures
-use Rattle.ptdump_engine.specs.declared.request.Columns.{Columns}
+use Rattle.ptdump_json.specs.declared.options.Columns.{Columns}
 use Rattle.ptdump_engine.specs.declared.request.Command.{Command}
 use Rattle.ptdump_engine.specs.declared.request.Command.TheVariants as commands
 use Rattle.x86_64_addr.specs.declared.level_count.Levels.{Levels}
 use Rattle.ptdump_engine.specs.declared.processors.Processor.{Processor}
-use Rattle.ptdump_engine.specs.declared.request.Form.{Form}
+use Rattle.ptdump_json.specs.declared.options.Form.{Form}
 use Rattle.ptdump_engine.specs.declared.request.Outcome.{Outcome}
 use Rattle.ptdump_engine.specs.declared.request.Request.{Request}
 use Rattle.x86_64_mappings.specs.declared.selection.Selection.{Selection}
-use Rattle.ptdump_engine.specs.declared.start.Origin.{Origin}
-use Rattle.ptdump_engine.specs.declared.start.Origin.TheVariants.{ByKernel, ByText}
-use Rattle.ptdump_engine.specs.declared.start.Start.{Start}
+use Rattle.ptdump_json.specs.declared.start.Origin.{Origin}
+use Rattle.ptdump_json.specs.declared.start.Origin.TheVariants.{ByKernel, ByText}
+use Rattle.ptdump_json.specs.declared.start.Start.{Start}
 use Rattle.ptdump_engine.specs.declared.totals.Totals.{Totals}
 
 -- ---- tests before anything is written

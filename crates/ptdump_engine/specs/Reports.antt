@@ -8,15 +8,15 @@ use Rattle.x86_64_model.specs.Position.{position_count, raw}
 use Rattle.x86_64_model.specs.Regions.{regions_of}
 use Rattle.text.specs.Numbers.{hexadecimal}
 use Rattle.x86_64_mappings.specs.Wanted.{leads_to}
-use Rattle.ptdump_engine.specs.Accesses.{is_access_there}
-use Rattle.ptdump_engine.specs.Lines.{found_line, mapping_line, region_line, walk_lines}
+use Rattle.ptdump_json.specs.Accesses.{is_access_there}
+use Rattle.ptdump_json.specs.Lines.{found_line, mapping_line, region_line, walk_lines}
 use Rattle.x86_64_mappings.specs.Selections.{is_mapping_selected, is_selected}
-use Rattle.ptdump_engine.specs.Walks.{line}
-use Rattle.ptdump_engine.specs.declared.request.Columns.{Columns}
-use Rattle.ptdump_engine.specs.declared.request.Form.{Form}
-use Rattle.ptdump_engine.specs.declared.request.Form.TheVariants.{Text}
+use Rattle.ptdump_json.specs.Walks.{line}
+use Rattle.ptdump_json.specs.declared.options.Columns.{Columns}
+use Rattle.ptdump_json.specs.declared.options.Form.{Form}
+use Rattle.ptdump_json.specs.declared.options.Form.TheVariants.{Text}
 use Rattle.x86_64_mappings.specs.declared.selection.Selection.{Selection}
-use Rattle.ptdump_engine.specs.declared.request.WalkOptions.{WalkOptions}
+use Rattle.ptdump_json.specs.declared.options.WalkOptions.{WalkOptions}
 
 -- The report of regions: a line in a form for each region below a root that is selected, in order.
 unfoldable pub regions_text : Selection → Form → Columns → Option Layout → (L : ℕ) → Words → (root : ℕ)

@@ -2,7 +2,7 @@
 use Rattle.std.specs.Prelude.{ℕ, Bool, ◌==◌, ◌++◌, if◌then◌else◌, true, false, List, [], codes, decimal}
 use Rattle.x86_64_model.specs.Memory.{Words}
 use Rattle.ptdump_check.specs.ReservedEntries.{reserved_count}
-use Rattle.ptdump_engine.specs.Walks.{line}
+use Rattle.ptdump_json.specs.Walks.{line}
 use Rattle.ptdump_engine.specs.declared.request.Command.{Command}
 use Rattle.ptdump_engine.specs.declared.request.Command.TheVariants as commands
 

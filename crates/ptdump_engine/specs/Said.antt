@@ -1,8 +1,8 @@
 -- Said: what a line says, as a text and as a JSON object.
 use Rattle.std.specs.Prelude.{ℕ, List}
 use Rattle.serde_json.specs.Data.{Data}
-use Rattle.ptdump_engine.specs.Lines.{line_in}
-use Rattle.ptdump_engine.specs.declared.request.Form.{Form}
+use Rattle.ptdump_json.specs.Lines.{line_in}
+use Rattle.ptdump_json.specs.declared.options.Form.{Form}
 
 -- A line of a report as a text without its line feed, and as a JSON object.
 pub record Said : Type 0 where

@@ -1,28 +1,26 @@
 -- Start: the root and the number of levels, from the request, QEMU's note of a processor or Linux's VMCOREINFO.
--- Intel SDM vol. 3A, "Control Registers": bits 12 to 51 of CR3 are the address of the root's table, bit 31 of CR0 is PG, bits 5
--- and 12 of CR4 are PAE and LA57.
-use Rattle.std.specs.Prelude.{ℕ, ◌&&◌, ◌||◌, not, if◌then◌else◌, List, [], ◌∷◌, length, slice_get, Option, None, Some, is_none, Result, Ok, Err}
+-- Intel SDM vol. 3A, "Control Registers": bits 12 to 51 of CR3 are the address of the root's table.
+use Rattle.std.specs.Prelude.{ℕ, ◌&&◌, ◌||◌, if◌then◌else◌, List, [], ◌∷◌, length, slice_get, Option, None, Some, is_none, Result, Ok, Err}
 use Rattle.std.specs.Option.{option_map_or, unwrap_or}
 use Rattle.x86_64_dump.specs.Dump.{Contents}
-use Rattle.x86_64_dump.specs.Lime.{after}
 use Rattle.x86_64_dump.specs.Notes.{is_of_virtualbox, processors_of, register_of}
 use Rattle.x86_64_dump.specs.VmCoreInfo.{kernel_in}
-use Rattle.x86_64_dump.specs.declared.error.Fault.{Fault}
 use Rattle.x86_64_dump.specs.declared.kernel_text.KernelText.{KernelText}
 use Rattle.x86_64_dump.specs.declared.note.Note.{Note}
 use Rattle.x86_64_dump.specs.declared.vmcoreinfo.Kernel.{Kernel}
-use Rattle.x86_64_model.specs.Entry.{address, has}
+use Rattle.x86_64_model.specs.Entry.{address}
 use Rattle.ptdump_engine.specs.declared.failure.Failure.{Failure}
 use Rattle.ptdump_engine.specs.declared.failure.Failure.TheVariants as failures
 use Rattle.x86_64_addr.specs.declared.level_count.Levels.{Levels}
-use Rattle.x86_64_addr.specs.declared.level_count.Levels.TheVariants.{Four, Five}
-use Rattle.ptdump_engine.specs.declared.mode.Mode.{Mode}
-use Rattle.ptdump_engine.specs.declared.mode.Mode.TheVariants.{NoPaging, Paging32, Paging64}
-use Rattle.ptdump_engine.specs.declared.registers.Registers.{Registers}
+use Rattle.x86_64_addr.specs.declared.level_count.Levels.TheVariants.{Four}
+use Rattle.ptdump_json.specs.declared.mode.Mode.{Mode}
+use Rattle.ptdump_json.specs.Paging.{levels_by_cr4, mode_of, registers_of}
+use Rattle.ptdump_json.specs.declared.mode.Mode.TheVariants.{Paging64}
+use Rattle.ptdump_json.specs.declared.registers.Registers.{Registers}
 use Rattle.ptdump_engine.specs.declared.request.Request.{Request}
-use Rattle.ptdump_engine.specs.declared.start.Origin.{Origin}
-use Rattle.ptdump_engine.specs.declared.start.Origin.TheVariants.{ByRequest, ByProcessor, ByKernel, ByText}
-use Rattle.ptdump_engine.specs.declared.start.Start.{Start}
+use Rattle.ptdump_json.specs.declared.start.Origin.{Origin}
+use Rattle.ptdump_json.specs.declared.start.Origin.TheVariants.{ByRequest, ByProcessor, ByKernel, ByText}
+use Rattle.ptdump_json.specs.declared.start.Start.{Start}
 use Rattle.ptdump_engine.specs.Steps.{and_then, of_dump}
 
 -- The note of processor `cpu`, counted from 0, None if the file has no notes of processors at all, or a failure if it has others.
@@ -36,16 +34,6 @@ abbrev pub note_needed : Request → Contents → Result (Option Note) Failure
 note_needed request dump =
     if (is_none request.cr3 || is_none request.levels) && is_none request.vmcoreinfo then note_of (unwrap_or request.cpu 0) (processors_of dump) else Ok None
 
--- The mode of paging by the bits PG of CR0 and PAE of CR4.
-abbrev pub mode_of : (cr0 cr4 : ℕ) → Mode
-mode_of cr0 cr4 = if not (has cr0 0x8000_0000) then NoPaging else if not (has cr4 0x20) then Paging32 else Paging64
-
--- The control registers of a processor by its note, or the fault that the note is too short.
-unfoldable pub registers_of : (file : List ℕ) → Note → Result Registers Fault
-registers_of file note = after (register_of file note 416) (λ cr3.
-    after (register_of file note 392) (λ cr0.
-    after (register_of file note 424) (λ cr4. Ok (record { cr0 = cr0; cr3 = cr3; cr4 = cr4 }))))
-
 -- The registers if the mode is 64-bit paging, or else the failure that processor `cpu` has another mode.
 abbrev pub in_64_bit : (cpu : ℕ) → Registers → Mode → Result Registers Failure
 in_64_bit cpu r Paging64 = Ok r
@@ -54,15 +42,6 @@ in_64_bit cpu r mode = Err (failures.WrongMode cpu mode)
 -- The control registers of processor `cpu` by its note, or why they can't be read or aren't those of 64-bit paging.
 unfoldable pub paging_registers : (file : List ℕ) → (cpu : ℕ) → Note → Result Registers Failure
 paging_registers file cpu note = and_then (of_dump (registers_of file note)) (λ r. in_64_bit cpu r (mode_of r.cr0 r.cr4))
-
--- The number of levels of tables, 4 or 5.
-abbrev pub level_count : Levels → ℕ
-level_count Four = 4
-level_count Five = 5
-
--- The number of levels by CR4: five if LA57 is on, and four otherwise.
-abbrev pub levels_by_cr4 : (cr4 : ℕ) → Levels
-levels_by_cr4 cr4 = if has cr4 0x1000 then Five else Four
 
 -- The number of levels in the request, or else that by the CR4 in a processor's note, or four without a note.
 abbrev pub levels_in_file : (file : List ℕ) → (given : Option Levels) → Option Note → Result Levels Failure

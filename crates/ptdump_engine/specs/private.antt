@@ -6,15 +6,10 @@ pub mod Checked
 pub mod Counting
 pub mod CountingLaws
 pub mod Finding
-pub mod Flags
 pub mod LineCounting
 pub mod LineCountingLaws
 pub mod Listed
-pub mod NoFloats
-pub mod Objects
 pub mod ProcessorGroups
 pub mod Puts
-pub mod Reported
 pub mod Roots
 pub mod Telling
-pub mod Walked

@@ -1,10 +1,9 @@
 //! Lines that are counted.
 ghost use Rattle.std.specs.Prelude.{◌≡◌};
 
-use crate::json_lines::{ToJson, write_as};
 use crate::line_output::LineOutput;
-use crate::lines::Lines;
 use crate::request::Form;
+use ptdump_json::{Lines, ToJson, write_as};
 use std::alloc::Global;
 use std::fmt::Display;
 

@@ -1,15 +1,14 @@
-//! Explanations of walks that arrive: how large the page is, and which words take rights away.
+//! Explanations of walks. They say how large the page is, and which words take rights away.
 ghost use Rattle.std.specs.Prelude.{◌++◌, Some, codes, if◌then◌else◌, [], OnOk};
 ghost use Rattle.std.specs.List.{flat_map};
 ghost use Rattle.text.specs.Sizes.{size_text};
-ghost use Rattle.ptdump_engine.specs.Explanations as explanations;
+ghost use Rattle.ptdump_json.specs.Explanations as explanations;
 ghost use Rattle.ptdump_engine.specs.Output.{Puts};
-ghost use Rattle.ptdump_engine.specs.private.Walked.{end_said};
+ghost use Rattle.ptdump_json.specs.Walked.{end_said};
 
 use crate::destination::Destination;
 use crate::output::{Output, OutputError};
-use crate::walked::{Walk, WalkEnd};
-use crate::word_read::{Place, WordRead};
+use ptdump_json::{Place, Walk, WalkEnd, WordRead};
 use std::fmt::{Display, Formatter, Result as FmtResult, Write};
 use text::write_size;
 use x86_64_tables::page_table::{PageTableEntry, PageTableFlags, has_flag};
@@ -64,7 +63,7 @@ fn write_losses_of<W: Destination>(
 }
 
 /// Writes a line for each right that one word takes away.
-#[tactic(auto, unfolding(crate::specs::Explanations::losses_text))]
+#[tactic(auto, unfolding(ptdump_json::specs::Explanations::losses_text))]
 fn write_losses<W: Destination>(
     read: &WordRead,
     output: &mut Output<'_, W>,

@@ -4,9 +4,9 @@ ghost use Rattle.std.specs.Fmt.{WritesOnOk};
 ghost use Rattle.ptdump_engine.specs.FailureTexts as texts;
 
 use crate::destination::Destination;
-use crate::mode::Mode;
 use crate::output::OutputError;
 use crate::request::Levels;
+use ptdump_json::Mode;
 use std::alloc::{AllocError, AllocFailed};
 use std::error::Error;
 use std::fmt::{Display, Formatter, Result as FmtResult, Write};

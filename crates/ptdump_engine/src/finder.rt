@@ -3,10 +3,10 @@ ghost use Rattle.std.specs.Prelude.{map, OnOk, Some};
 ghost use Rattle.ptdump_engine.specs.private.Asked.{mappings_asked};
 ghost use Rattle.ptdump_engine.specs.private.Finding.{said_of_found};
 
-use crate::json_lines::Found;
 use crate::line_output::LineOutput;
 use crate::telling::{Teller, Telling};
 use ptdump_check::RightsAt;
+use ptdump_json::Found;
 use x86_64_addr::addr::{PhysAddr, VirtAddrIn};
 use x86_64_addr::level_count::LevelCount;
 use x86_64_mappings::{MappingIn, Summaries, visit_mappings};

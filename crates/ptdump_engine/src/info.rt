@@ -10,22 +10,17 @@ ghost use Rattle.ptdump_engine.specs.FailureTexts.{failure_text};
 ghost use Rattle.ptdump_engine.specs.Info as info;
 ghost use Rattle.ptdump_engine.specs.Output.{Puts};
 ghost use Rattle.ptdump_engine.specs.Program.{info_of, is_info, start_for};
-ghost use Rattle.ptdump_engine.specs.Start.{registers_of};
+ghost use Rattle.ptdump_json.specs.Paging.{registers_of};
 ghost use Rattle.ptdump_engine.specs.Steps.{MayBeForced};
-
-mod items;
 
 use crate::destination::Destination;
 use crate::engine::start_for;
 use crate::failure::Failure;
-use crate::json_lines::write_as;
 use crate::output::{Output, OutputError};
-use crate::registers::Registers;
 use crate::request::{Form, Outcome, Request};
-use crate::start::Start;
-pub use items::{
-    DumpFormat, KernelRoot, MemoryRange, NoKernelRoot, NoRoot, Processor, Root, ToldText,
-    UnplacedMemory,
+use ptdump_json::{
+    DumpFormat, KernelRoot, MemoryRange, NoKernelRoot, NoRoot, Processor, Registers, Root, Start,
+    UnplacedMemory, write_as,
 };
 use std::alloc::{AllocError, Global};
 use std::fmt::Display;

@@ -1,11 +1,8 @@
 //! The program `ptdump`: reads the page tables of a dump of physical memory, and reports what they map.
 #![tactic(auto)]
 
-mod access_line;
-mod aligned;
 mod arguments;
 mod check;
-mod columns;
 mod counted_lines;
 mod destination;
 mod engine;
@@ -15,13 +12,9 @@ mod finder;
 mod flawed_entries;
 mod image;
 mod info;
-mod json_lines;
 mod line_count;
 mod line_output;
 mod lines;
-mod listing;
-mod mode;
-mod names;
 mod noted_controls;
 mod noted_levels;
 mod opening;
@@ -29,7 +22,6 @@ mod output;
 mod picture;
 mod processor_groups;
 mod processors;
-mod registers;
 mod report;
 mod request;
 mod reserved;
@@ -40,8 +32,6 @@ mod start;
 mod telling;
 mod totals;
 mod walk;
-mod walked;
-mod word_read;
 
 pub use destination::Destination;
 pub use engine::run;

@@ -1,8 +1,8 @@
 //! Lines that are only counted.
 ghost use Rattle.std.specs.Prelude.{◌≡◌};
 
-use crate::json_lines::ToJson;
 use crate::line_output::LineOutput;
+use ptdump_json::ToJson;
 use std::alloc::AllocError;
 use std::fmt::Display;
 

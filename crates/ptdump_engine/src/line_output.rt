@@ -2,7 +2,7 @@
 ghost use Rattle.std.specs.Prelude.{◌++◌, List, [], ◌∷◌, IfSome, OnOk};
 ghost use Rattle.ptdump_engine.specs.Said.{Said};
 
-use crate::json_lines::ToJson;
+use ptdump_json::ToJson;
 use std::alloc::AllocError;
 use std::fmt::Display;
 

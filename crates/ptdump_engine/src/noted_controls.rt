@@ -4,14 +4,13 @@ ghost use Rattle.x86_64_dump.specs.Notes.{processors_of};
 ghost use Rattle.x86_64_dump.specs.Opened.{opened};
 ghost use Rattle.ptdump_engine.specs.NotedControls as specs;
 ghost use Rattle.ptdump_engine.specs.Program.{IsTested};
-ghost use Rattle.ptdump_engine.specs.Start.{registers_of};
+ghost use Rattle.ptdump_json.specs.Paging.{registers_of};
 ghost use Rattle.ptdump_engine.specs.Steps.{Finds};
-ghost use Rattle.ptdump_engine.specs.declared.request.ControlsSource.TheVariants.{Assumed};
+ghost use Rattle.ptdump_json.specs.declared.options.ControlsSource.TheVariants.{Assumed};
 
 use crate::failure::Failure;
-use crate::mode::Mode;
-use crate::registers::Registers;
 use crate::request::{Command, ControlsSource, Request, WalkOptions};
+use ptdump_json::{Mode, Registers};
 use std::alloc::Global;
 use x86_64_access::Controls;
 use x86_64_dump::{ByteSource, Dump, DumpError, Note};

@@ -1,8 +1,8 @@
-//! The number of levels of tables that the dump says where it says the root.
+//! Levels that a dump notes: the number that it says where it says the root.
 ghost use Rattle.std.specs.Prelude.{OnOk};
 ghost use Rattle.ptdump_engine.specs.NotedLevels.{noted_levels_text};
 ghost use Rattle.ptdump_engine.specs.Output.{Puts};
-ghost use Rattle.ptdump_engine.specs.Walks.{line};
+ghost use Rattle.ptdump_json.specs.Walks.{line};
 
 use crate::destination::Destination;
 use crate::output::{Output, OutputError};

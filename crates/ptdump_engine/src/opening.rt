@@ -3,15 +3,15 @@ ghost use Rattle.std.specs.Prelude.{◌≡◌, [], OnOk, Ok, string_bytes};
 ghost use Rattle.std.specs.List.{flat_map};
 ghost use Rattle.x86_64_dump.specs.Opened.{opened};
 ghost use Rattle.x86_64_dump.specs.Opening.{OpensAs};
-ghost use Rattle.ptdump_engine.specs.InfoTexts.{text_told};
+ghost use Rattle.ptdump_json.specs.InfoTexts.{text_told};
 ghost use Rattle.ptdump_engine.specs.Output.{Puts};
 ghost use Rattle.ptdump_engine.specs.Program as program;
-ghost use Rattle.ptdump_engine.specs.Walks.{line};
+ghost use Rattle.ptdump_json.specs.Walks.{line};
 
 use crate::destination::Destination;
-use crate::info::ToldText;
 use crate::output::{Output, OutputError};
 use crate::request::{AddressRange, Request};
+use ptdump_json::ToldText;
 use std::alloc::Global;
 use x86_64_dump::{
     ByteSource, Dump, DumpError, Format, KernelText, Progress, Segment, read_format,

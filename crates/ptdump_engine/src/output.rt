@@ -1,4 +1,4 @@
-//! Output that is collected, and passed on in large pieces.
+//! Collected output. It is passed on in large pieces.
 ghost use Rattle.std.specs.Prelude.{◌≡◌, ◌<◌, IfErr, IfSome, OnOk, length, string_bytes, [], true};
 ghost use Rattle.ptdump_engine.specs.declared.failure.Failure.TheVariants as failures;
 
@@ -99,7 +99,7 @@ impl<'a, W: Destination> Output<'a, W> {
 
 impl<W: Destination> Output<'_, W> {
     ghost use Rattle.ptdump_engine.specs.Output.{IsRefusal, Puts};
-    ghost use Rattle.ptdump_engine.specs.Walks.{line};
+    ghost use Rattle.ptdump_json.specs.Walks.{line};
 
     /// Puts a text in. `write!` and `writeln!` call it.
     ///

@@ -7,10 +7,9 @@ ghost use Rattle.ptdump_engine.specs.Processors as specs;
 ghost use Rattle.ptdump_engine.specs.Steps.{FindsAs};
 
 use crate::failure::Failure;
-use crate::mode::Mode;
-use crate::registers::Registers;
 use crate::request::Levels;
-use crate::start::{Start, start_by_processor};
+use crate::start::start_by_processor;
+use ptdump_json::{Mode, Registers, Start};
 use std::alloc::Global;
 use x86_64_dump::{ByteSource, Dump, Note};
 

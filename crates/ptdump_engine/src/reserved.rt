@@ -1,4 +1,4 @@
-//! Words with reserved bits, at which a processor faults.
+//! Words with reserved bits. A processor faults at them.
 ghost use Rattle.std.specs.Prelude.{◌≡◌, ◌-◌, ◌^◌, IfOk, OnOk, length, map, min};
 ghost use Rattle.x86_64_dump.specs.Loaded.{frames_in, loaded_words};
 ghost use Rattle.x86_64_model.specs.Memory.{identity_places, words_of};

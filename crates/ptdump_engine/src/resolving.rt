@@ -12,8 +12,8 @@ ghost use Rattle.ptdump_engine.specs.declared.request.AreaNames.TheVariants.{By}
 use crate::failure::Failure;
 use crate::noted_controls::with_noted_controls;
 use crate::request::{AreaNames, Levels, Request};
-use crate::start::{Origin, Start};
 use linux_areas::Layout;
+use ptdump_json::{Origin, Start};
 use std::alloc::Global;
 use x86_64_dump::{ByteSource, Dump};
 

@@ -1,4 +1,4 @@
-//! Regions that are selected by their addresses and their rights.
+//! Regions that are selected. Their addresses and their rights decide.
 ghost use Rattle.std.specs.Prelude.{cond, None};
 ghost use Rattle.x86_64_mappings.specs.Selections.{is_selected};
 

@@ -7,9 +7,8 @@ ghost use Rattle.ptdump_engine.specs.Start as starts;
 ghost use Rattle.ptdump_engine.specs.Steps.{Finds};
 
 use crate::failure::Failure;
-use crate::mode::Mode;
-use crate::registers::Registers;
 use crate::request::{Levels, Request};
+use ptdump_json::{Mode, Origin, Registers, Start, levels_by};
 use std::alloc::Global;
 use x86_64_addr::addr::PhysAddr;
 use x86_64_dump::{ByteSource, Dump, Note};
@@ -18,37 +17,6 @@ use x86_64_page::page::Size4KiB;
 
 /// The bits of CR3 that are the address of the root's table.
 const ROOT_MASK: u64 = 0x000f_ffff_ffff_f000;
-
-/// The bit of CR4 that enables five levels of tables.
-const LA57: u64 = 0x1000;
-
-/// What says where the root is.
-#[derive(Clone, Copy)]
-pub enum Origin {
-    /// The CR3 of the request.
-    ByRequest,
-    /// The CR3 in QEMU's note of a processor.
-    ByProcessor,
-    /// Linux's note VMCOREINFO, for the kernel's own root.
-    ByKernel,
-    /// Likewise the text VMCOREINFO at this offset of the file.
-    ByText(u64),
-}
-
-/// The start of page walks.
-#[derive(Clone, Copy)]
-pub struct Start {
-    /// The frame of the root's table.
-    pub root: PhysFrame<Size4KiB>,
-    /// The number of levels of tables.
-    pub levels: Levels,
-    /// What says where the root is.
-    pub origin: Origin,
-    /// The number of levels that the dump says, if it says where the root is.
-    pub noted_levels: Option<Levels>,
-    /// The control registers of the processor that says where the root is, if one does.
-    pub registers: Option<Registers>,
-}
 
 /// Determines the start of page walks from the request, a processor's note, or VMCOREINFO.
 ///
@@ -214,18 +182,6 @@ fn levels_of<S: ByteSource>(
         (Some(levels), _) => Ok(levels),
         (None, Some(note)) => Ok(levels_by(dump.cr4(&note)?)),
         (None, None) => Ok(Levels::Four),
-    }
-}
-
-/// Returns the number of levels for a CR4.
-#[tactic(auto, unfolding(x86_64_model::specs::Entry::has))]
-pub fn levels_by(cr4: u64) -> Levels
-    ensures { result ≡ starts.levels_by_cr4 cr4 }
-{
-    if cr4 & LA57 == LA57 {
-        Levels::Five
-    } else {
-        Levels::Four
     }
 }
 

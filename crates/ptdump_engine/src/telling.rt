@@ -1,5 +1,5 @@
 //! What is said of mappings and regions, a line each.
-ghost use Rattle.std.specs.Prelude.{◌≡◌, [], filter, OnOk, Option};
+ghost use Rattle.std.specs.Prelude.{◌≡◌, [], filter, OnOk, Option, Some};
 ghost use Rattle.std.specs.List.{cons_option, filter_map};
 ghost use Rattle.x86_64_model.specs.Mappings.{mappings_of};
 ghost use Rattle.x86_64_model.specs.Regions.{regions_of};
@@ -11,6 +11,7 @@ use crate::line_output::LineOutput;
 use crate::request::Selection;
 use crate::selected::Selected;
 use ptdump_check::Loaded;
+use ptdump_json::{ListedMapping, ListedRegion, Listing};
 use x86_64_addr::level_count::LevelCount;
 use x86_64_mappings::{MappingIn, RegionIn, Visitor, visit_regions, visit_selected_mappings};
 use x86_64_tables::phys_memory::{IdentityMapping, PhysMemory};
@@ -23,6 +24,40 @@ pub trait Telling<T> {
     /// Puts the line for an item in, if it has one.
     fn tell<O: LineOutput>(&self, item: T, output: &mut O) -> Result<(), O::Error>
         ensures { OnOk result (O.Lines output.old output.new (cons_option (said self.now item) [])) };
+}
+
+impl<L: LevelCount> Telling<MappingIn<L>> for Listing {
+    ghost use Rattle.ptdump_engine.specs.private.Listed.{said_of_page};
+
+    ghost said = { λ listing mapping.
+        Some (said_of_page listing.columns listing.has_names listing.layout L.LEVELS mapping) };
+
+    fn tell<O: LineOutput>(&self, mapping: MappingIn<L>, output: &mut O) -> Result<(), O::Error> {
+        let listing = *self;
+        let area = listing.area_of_mapping(&mapping);
+        output.write_line(ListedMapping {
+            mapping,
+            listing,
+            area,
+        })
+    }
+}
+
+impl<L: LevelCount> Telling<RegionIn<L>> for Listing {
+    ghost use Rattle.ptdump_engine.specs.private.Listed.{said_of_region};
+
+    ghost said = { λ listing region.
+        Some (said_of_region listing.columns listing.layout L.LEVELS region) };
+
+    fn tell<O: LineOutput>(&self, region: RegionIn<L>, output: &mut O) -> Result<(), O::Error> {
+        let listing = *self;
+        let area = listing.area_of_region(&region);
+        output.write_line(ListedRegion {
+            region,
+            listing,
+            area,
+        })
+    }
 }
 
 /// A visitor that puts in the lines for items.

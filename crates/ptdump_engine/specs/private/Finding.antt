@@ -4,9 +4,9 @@ use Rattle.std.specs.List.{flat_map}
 use Rattle.x86_64_model.specs.Mappings.{Mapping}
 use Rattle.x86_64_model.specs.Position.{position_count, raw}
 use Rattle.ptdump_check.specs.FindingTexts.{rights_at_text}
-use Rattle.ptdump_engine.specs.Json.{json_of_found}
+use Rattle.ptdump_json.specs.Json.{json_of_found}
 use Rattle.ptdump_engine.specs.Said.{Said, line_of}
-use Rattle.ptdump_engine.specs.declared.request.Form.{Form}
+use Rattle.ptdump_json.specs.declared.options.Form.{Form}
 
 -- The virtual address in a mapping that leads to a physical address, taken modulo the size of the address space of L levels of
 -- tables, so that any mapping has one.

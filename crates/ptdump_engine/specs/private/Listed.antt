@@ -3,11 +3,11 @@ use Rattle.std.specs.Prelude.{ℕ, ◌++◌, Bool, Option}
 use Rattle.linux_areas.specs.declared.layout.Layout.{Layout}
 use Rattle.x86_64_model.specs.Mappings.{Mapping}
 use Rattle.x86_64_model.specs.Regions.{Region}
-use Rattle.ptdump_engine.specs.Columns.{mapping_in, region_in}
-use Rattle.ptdump_engine.specs.Json.{json_of_mapping, json_of_region}
-use Rattle.ptdump_engine.specs.NamedAreas.{area_of_mapping, area_of_region, area_text}
+use Rattle.ptdump_json.specs.Columns.{mapping_in, region_in}
+use Rattle.ptdump_json.specs.Json.{json_of_mapping, json_of_region}
+use Rattle.ptdump_json.specs.ListedAreas.{area_of_mapping, area_of_region, area_text}
 use Rattle.ptdump_engine.specs.Said.{Said}
-use Rattle.ptdump_engine.specs.declared.request.Columns.{Columns}
+use Rattle.ptdump_json.specs.declared.options.Columns.{Columns}
 
 -- The text and the JSON object of a region in a list, with the area in which it lies, if that is known.
 abbrev pub said_of_region : Columns → Option Layout → (L : ℕ) → Region → Said

@@ -1,6 +1,6 @@
 use Rattle.std.proofs.Common.{List, [], ℕ, rules, Option, unwrap_or, sym, subst}
 use Rattle.clap.specs.Matches.{found_of}
-use Rattle.ptdump_engine.specs.declared.request.WalkOptions.{WalkOptions}
+use Rattle.ptdump_json.specs.declared.options.WalkOptions.{WalkOptions}
 use Rattle.ptdump.specs.Asked.{AreAsked, AreControls, usual_names}
 use Rattle.ptdump.specs.Reasons.{IsMistake, IsNoSetting}
 use Rattle.ptdump.proofs.Reasons.{of_settings}

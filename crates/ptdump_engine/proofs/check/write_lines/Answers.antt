@@ -1,4 +1,4 @@
-use Rattle.ptdump_engine.proofs.Results.{on_ok}
+use Rattle.ptdump_json.proofs.Results.{on_ok}
 use Rattle.ptdump_engine.proofs.check.write_lines.Goals as goal
 
 pub returns : goal.returns

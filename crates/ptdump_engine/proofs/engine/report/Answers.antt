@@ -10,7 +10,7 @@ use Rattle.ptdump_engine.specs.Output.{Puts, put_in}
 use Rattle.ptdump_engine.specs.Program.{ToldInTurn}
 use Rattle.ptdump_engine.specs.Reserved.{reserved_note}
 use Rattle.ptdump_engine.specs.Totals.{IsMappedMemory, totals_text}
-use Rattle.ptdump_engine.specs.Walks.{line}
+use Rattle.ptdump_json.specs.Walks.{line}
 use Rattle.ptdump_engine.specs.declared.output.Output.{Output}
 use Rattle.ptdump_check.proofs.SameTables.{same_tables}
 use Rattle.ptdump_engine.proofs.SameLines.{same_note}

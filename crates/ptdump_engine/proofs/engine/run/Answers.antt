@@ -14,7 +14,7 @@ use Rattle.ptdump_engine.specs.Output.{put_in}
 use Rattle.ptdump_engine.specs.private.Roots.{AreNoted}
 use Rattle.ptdump_engine.proofs.Failing.{forced_found}
 use Rattle.ptdump_engine.proofs.Resolved.{same_ends, same_image}
-use Rattle.ptdump_engine.proofs.Results.{if_err, on_ok}
+use Rattle.ptdump_json.proofs.Results.{if_err, on_ok}
 use Rattle.ptdump_engine.proofs.Wholly.{forced_run, no_processors, no_start, opens, put_first, puts_both, runs_by, runs_on_all, shows, tells_of, unopened, written_at_once}
 use Rattle.ptdump_engine.proofs.engine.run.Goals as goal
 

@@ -1,6 +1,6 @@
 use Rattle.std.proofs.Common.{◌++◌, ◌∷◌, [], ap, append_assoc, codes, decimal, subst, sym}
 use Rattle.ptdump_engine.specs.Output.{Puts}
-use Rattle.ptdump_engine.proofs.Results.{on_ok}
+use Rattle.ptdump_json.proofs.Results.{on_ok}
 use Rattle.ptdump_engine.proofs.engine.write_text_source.Goals as goal
 
 pub returns : goal.returns

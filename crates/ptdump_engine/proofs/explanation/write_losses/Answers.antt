@@ -1,9 +1,9 @@
 use Rattle.std.proofs.Common.{◌≡◌, ◌∙◌, Bool, not, codes, ap, subst}
 use Rattle.x86_64_model.specs.Entry.{writable, user, no_execute}
-use Rattle.ptdump_engine.specs.Explanations.{loss_text, losses_text}
+use Rattle.ptdump_json.specs.Explanations.{loss_text, losses_text}
 use Rattle.ptdump_engine.specs.Output.{Puts}
 use Rattle.ptdump_engine.specs.private.Puts.{puts_both}
-use Rattle.ptdump_engine.proofs.Results.{on_ok}
+use Rattle.ptdump_json.proofs.Results.{on_ok}
 use Rattle.ptdump_engine.proofs.explanation.write_losses.Goals as goal
 
 pub returns : goal.returns

@@ -1,5 +1,5 @@
 use Rattle.std.proofs.Common.{subst}
-use Rattle.ptdump_engine.specs.Explanations.{losses_text}
+use Rattle.ptdump_json.specs.Explanations.{losses_text}
 use Rattle.ptdump_engine.specs.Output.{Puts}
 use Rattle.ptdump_engine.specs.private.Puts.{puts_nothing}
 use Rattle.ptdump_engine.proofs.Listed.{puts_more}

@@ -1,6 +1,6 @@
 use Rattle.std.proofs.Common.{take}
 use Rattle.std.specs.List.{flat_map}
-use Rattle.ptdump_engine.specs.Explanations.{losses_text}
+use Rattle.ptdump_json.specs.Explanations.{losses_text}
 use Rattle.ptdump_engine.specs.Output.{Puts}
 use Rattle.ptdump_engine.proofs.explanation.write_losses_of.Given as goal
 

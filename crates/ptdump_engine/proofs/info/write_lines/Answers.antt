@@ -7,7 +7,7 @@ use Rattle.ptdump_engine.specs.Info.{format_line, info_in, kernel_line, memory_l
 use Rattle.ptdump_engine.specs.Output.{Puts}
 use Rattle.ptdump_engine.specs.Program.{start_for}
 use Rattle.ptdump_engine.specs.private.Puts.{puts_both}
-use Rattle.ptdump_engine.proofs.Results.{on_ok}
+use Rattle.ptdump_json.proofs.Results.{on_ok}
 use Rattle.ptdump_engine.proofs.info.write_lines.Goals as goal
 
 pub returns-clause-text : goal.returns-clause-text

@@ -1,7 +1,7 @@
 use Rattle.std.proofs.Common.{subst}
 use Rattle.std.specs.List.{flat_map}
 use Rattle.ptdump_engine.specs.Info.{known_registers, processor_line}
-use Rattle.ptdump_engine.specs.Start.{registers_of}
+use Rattle.ptdump_json.specs.Paging.{registers_of}
 use Rattle.ptdump_engine.specs.Output.{Puts}
 use Rattle.ptdump_engine.specs.private.Puts.{puts_nothing}
 use Rattle.ptdump_engine.proofs.Listed.{all_placed, puts_placed}

@@ -1,7 +1,7 @@
 use Rattle.std.proofs.Common.{take}
 use Rattle.std.specs.List.{enumerate_from, flat_map}
 use Rattle.ptdump_engine.specs.Info.{known_registers, processor_line}
-use Rattle.ptdump_engine.specs.Start.{registers_of}
+use Rattle.ptdump_json.specs.Paging.{registers_of}
 use Rattle.ptdump_engine.specs.Output.{Puts}
 use Rattle.ptdump_engine.proofs.info.write_processors.Given as goal
 

@@ -7,7 +7,7 @@ use Rattle.ptdump_engine.specs.Program.{start_for}
 use Rattle.ptdump_engine.specs.Steps.{MayBeForced}
 use Rattle.ptdump_engine.specs.declared.failure.Failure.{Failure}
 use Rattle.ptdump_engine.proofs.Failing.{forced_write}
-use Rattle.ptdump_engine.proofs.Results.{both_ok, if_err, on_ok}
+use Rattle.ptdump_json.proofs.Results.{both_ok, if_err, on_ok}
 use Rattle.ptdump_engine.proofs.Untold.{shown, start_has_text, text_or, unshown}
 use Rattle.ptdump_engine.proofs.info.write_root.Goals as goal
 

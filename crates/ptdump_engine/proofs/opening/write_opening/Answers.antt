@@ -1,7 +1,7 @@
 use Rattle.x86_64_dump.specs.Opened.{opened}
 use Rattle.ptdump_engine.specs.Program.{differing_text, file_text}
 use Rattle.ptdump_engine.specs.private.Puts.{puts_both}
-use Rattle.ptdump_engine.proofs.Results.{on_ok}
+use Rattle.ptdump_json.proofs.Results.{on_ok}
 use Rattle.ptdump_engine.proofs.opening.write_opening.Goals as goal
 
 pub returns-clause-text : goal.returns-clause-text

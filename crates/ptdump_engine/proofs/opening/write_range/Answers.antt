@@ -1,7 +1,7 @@
 use Rattle.std.proofs.Common.{◌≡◌, ◌∙◌, OnOk, ap, arith, codes, cond, ne_eqb, subst, sym}
 use Rattle.ptdump_engine.specs.Output.{Puts}
 use Rattle.ptdump_engine.specs.Program.{last_address, raw_range_text, raw_text}
-use Rattle.ptdump_engine.specs.Walks.{line}
+use Rattle.ptdump_json.specs.Walks.{line}
 use Rattle.ptdump_engine.proofs.opening.write_range.Goals as goal
 
 pub returns : goal.returns

@@ -1,5 +1,5 @@
 use Rattle.ptdump_engine.specs.Program.{raw_text}
-use Rattle.ptdump_engine.specs.Walks.{line}
+use Rattle.ptdump_json.specs.Walks.{line}
 use Rattle.ptdump_engine.specs.private.Puts.{puts_nothing}
 use Rattle.ptdump_engine.proofs.Listed.{puts_more}
 use Rattle.ptdump_engine.proofs.opening.write_raw.Goals as goal

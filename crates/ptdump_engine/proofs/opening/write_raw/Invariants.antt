@@ -2,7 +2,7 @@ use Rattle.std.proofs.Common.{take}
 use Rattle.std.specs.List.{flat_map}
 use Rattle.ptdump_engine.specs.Output.{Puts}
 use Rattle.ptdump_engine.specs.Program.{raw_text}
-use Rattle.ptdump_engine.specs.Walks.{line}
+use Rattle.ptdump_json.specs.Walks.{line}
 use Rattle.ptdump_engine.proofs.opening.write_raw.Given as goal
 
 -- the segments so far are written

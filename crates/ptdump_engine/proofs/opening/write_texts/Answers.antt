@@ -1,7 +1,7 @@
 use Rattle.std.proofs.Common.{subst}
-use Rattle.ptdump_engine.specs.InfoTexts.{text_told}
+use Rattle.ptdump_json.specs.InfoTexts.{text_told}
 use Rattle.ptdump_engine.specs.Output.{Puts}
-use Rattle.ptdump_engine.specs.Walks.{line}
+use Rattle.ptdump_json.specs.Walks.{line}
 use Rattle.ptdump_engine.specs.private.Puts.{puts_nothing}
 use Rattle.ptdump_engine.proofs.Listed.{puts_more}
 use Rattle.ptdump_engine.proofs.opening.write_texts.Goals as goal

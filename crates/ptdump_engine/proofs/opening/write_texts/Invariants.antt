@@ -1,8 +1,8 @@
 use Rattle.std.proofs.Common.{take}
 use Rattle.std.specs.List.{flat_map}
-use Rattle.ptdump_engine.specs.InfoTexts.{text_told}
+use Rattle.ptdump_json.specs.InfoTexts.{text_told}
 use Rattle.ptdump_engine.specs.Output.{Puts}
-use Rattle.ptdump_engine.specs.Walks.{line}
+use Rattle.ptdump_json.specs.Walks.{line}
 use Rattle.ptdump_engine.proofs.opening.write_texts.Given as goal
 
 -- the texts so far are written

@@ -5,7 +5,7 @@ use Rattle.ptdump_engine.specs.Output.{Puts}
 use Rattle.ptdump_engine.specs.private.Asked.{mappings_asked}
 use Rattle.ptdump_engine.specs.private.Finding.{some_there, visited_lines}
 use Rattle.ptdump_engine.proofs.Searches.{lines_found, some_found}
-use Rattle.ptdump_engine.proofs.Results.{on_ok}
+use Rattle.ptdump_json.proofs.Results.{on_ok}
 use Rattle.ptdump_engine.proofs.report.write_addresses_to.Goals as goal
 
 pub returns-clause-text : goal.returns-clause-text

@@ -1,12 +1,13 @@
 use Rattle.std.proofs.Common.{◌∙◌, ◌++◌, [], if◌then◌else◌, sym, ap, subst, append-nil}
 use Rattle.ptdump_check.specs.Loaded.{words_loaded}
-use Rattle.ptdump_engine.specs.Accesses.{asked_text, is_access_there}
-use Rattle.ptdump_engine.specs.Explanations.{explanation_text}
+use Rattle.ptdump_json.specs.Accesses.{asked_text, is_access_there}
+use Rattle.ptdump_json.specs.Explanations.{explanation_text}
 use Rattle.ptdump_engine.specs.Output.{Puts}
-use Rattle.ptdump_engine.specs.Walks.{walk_of, walk_text}
+use Rattle.ptdump_json.specs.Walks.{walk_of, walk_text}
 use Rattle.ptdump_engine.specs.private.Puts.{puts_both}
-use Rattle.ptdump_engine.proofs.Results.{on_ok}
-use Rattle.ptdump_engine.proofs.WalkValues.{puts_walk, value_arrives}
+use Rattle.ptdump_json.proofs.Results.{on_ok}
+use Rattle.ptdump_json.proofs.WalkValues.{value_arrives}
+use Rattle.ptdump_engine.proofs.WalkTexts.{puts_walk}
 use Rattle.ptdump_engine.proofs.report.write_walk_by.Goals as goal
 
 pub returns-in-None-clause-text : goal.returns-in-None-clause-text

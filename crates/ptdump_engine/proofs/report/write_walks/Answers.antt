@@ -1,7 +1,7 @@
 use Rattle.std.proofs.Common.{◌∙◌, ◌%◌, ◌&&◌, ap₂, sym, refl}
 use Rattle.x86_64_model.specs.Position.{position_count}
 use Rattle.ptdump_check.specs.Loaded.{words_loaded}
-use Rattle.ptdump_engine.specs.Accesses.{is_access_there}
+use Rattle.ptdump_json.specs.Accesses.{is_access_there}
 use Rattle.ptdump_engine.specs.Reports.{are_several, headed_walk, walks_text}
 use Rattle.ptdump_engine.specs.private.Puts.{puts_nothing}
 use Rattle.ptdump_engine.proofs.Listed.{puts_more, all_more}

@@ -6,7 +6,7 @@ use Rattle.ptdump_check.specs.declared.loaded.Loaded.{Loaded}
 use Rattle.ptdump_engine.specs.Output.{Puts}
 use Rattle.ptdump_check.specs.ReservedEntries.{reserved_count, reserved_entries}
 use Rattle.ptdump_engine.specs.Reserved.{reserved_line, reserved_note}
-use Rattle.ptdump_engine.proofs.Results.{on_ok}
+use Rattle.ptdump_json.proofs.Results.{on_ok}
 use Rattle.ptdump_engine.proofs.reserved.write_reserved.Goals as goal
 
 -- the tables that were read are all

@@ -5,7 +5,7 @@ use Rattle.ptdump_check.specs.declared.findings.finding.EntryFlaw.TheVariants as
 use Rattle.ptdump_engine.specs.CheckReports.{said_of}
 use Rattle.ptdump_check.specs.ReservedEntries.{reserved_entries}
 use Rattle.ptdump_engine.proofs.BothLines.{both_lines}
-use Rattle.ptdump_engine.proofs.Results.{on_ok}
+use Rattle.ptdump_json.proofs.Results.{on_ok}
 use Rattle.ptdump_engine.proofs.reserved.write_reserved_entries.Goals as goal
 
 pub returns : goal.returns

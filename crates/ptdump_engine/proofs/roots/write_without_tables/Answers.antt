@@ -1,7 +1,7 @@
 use Rattle.std.proofs.Common.{◌≡◌, ◌∙◌, ◌++◌, ℕ, List, [], ◌∷◌, ap, sym, subst, codes, decimal, append_assoc}
-use Rattle.ptdump_engine.specs.FailureTexts.{mode_told}
+use Rattle.ptdump_json.specs.InfoTexts.{mode_told}
 use Rattle.ptdump_engine.specs.Output.{Puts}
-use Rattle.ptdump_engine.proofs.Results.{on_ok}
+use Rattle.ptdump_json.proofs.Results.{on_ok}
 use Rattle.ptdump_engine.proofs.roots.write_without_tables.Goals as goal
 
 in_five : (a b c d e : List ℕ) → (((a ++ b) ++ c) ++ d) ++ e ≡ a ++ (b ++ (c ++ (d ++ e)))

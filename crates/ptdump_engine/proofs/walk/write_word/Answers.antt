@@ -1,8 +1,8 @@
 use Rattle.std.proofs.Common.{rules, ◌≡◌, ◌++◌, Bool, true, [], if◌then◌else◌, codes, sym, subst}
 use Rattle.ptdump_engine.specs.Output.{Puts}
-use Rattle.ptdump_engine.specs.Walks.{faults_at, line, word_lines, word_text}
+use Rattle.ptdump_json.specs.Walks.{faults_at, line, word_lines, word_text}
 use Rattle.ptdump_engine.specs.private.Puts.{puts_both}
-use Rattle.ptdump_engine.proofs.Results.{on_ok}
+use Rattle.ptdump_json.proofs.Results.{on_ok}
 use Rattle.ptdump_engine.proofs.walk.write_word.Goals as goal
 
 pub returns : goal.returns

@@ -1,6 +1,6 @@
 use Rattle.std.proofs.Common.{subst}
 use Rattle.ptdump_engine.specs.Output.{Puts}
-use Rattle.ptdump_engine.specs.Walks.{word_lines}
+use Rattle.ptdump_json.specs.Walks.{word_lines}
 use Rattle.ptdump_engine.specs.private.Puts.{puts_nothing}
 use Rattle.ptdump_engine.proofs.Listed.{puts_more}
 use Rattle.ptdump_engine.proofs.walk.write_words.Goals as goal

@@ -1,7 +1,7 @@
 use Rattle.std.proofs.Common.{take}
 use Rattle.std.specs.List.{flat_map}
 use Rattle.ptdump_engine.specs.Output.{Puts}
-use Rattle.ptdump_engine.specs.Walks.{word_lines}
+use Rattle.ptdump_json.specs.Walks.{word_lines}
 use Rattle.ptdump_engine.proofs.walk.write_words.Given as goal
 
 -- the words so far are written

@@ -3,7 +3,7 @@ use Rattle.std.specs.List.{cons_option}
 use Rattle.ptdump_check.specs.Aliasing.{alias_by, aliased_by, MapsFrame}
 use Rattle.ptdump_check.proofs.FirstAliases.{said_by}
 use Rattle.ptdump_engine.specs.CheckReports.{said_of_aliased}
-use Rattle.ptdump_engine.proofs.Results.{on_ok}
+use Rattle.ptdump_json.proofs.Results.{on_ok}
 use Rattle.ptdump_engine.proofs.check.aliases.write_alias.Goals as goal
 
 pub returns-in-Some : goal.returns-in-Some

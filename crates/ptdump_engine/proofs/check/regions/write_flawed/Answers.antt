@@ -4,7 +4,7 @@ use Rattle.x86_64_mappings.specs.Selections.{is_selected}
 use Rattle.ptdump_check.specs.Findings.{has_flaw}
 use Rattle.ptdump_check.specs.Loaded.{words_loaded}
 use Rattle.ptdump_engine.specs.CheckReports.{said_of_flawed}
-use Rattle.ptdump_engine.proofs.Results.{on_ok}
+use Rattle.ptdump_json.proofs.Results.{on_ok}
 use Rattle.ptdump_engine.proofs.Told.{said_of_each, said_of_passing}
 use Rattle.ptdump_engine.proofs.check.regions.write_flawed.Goals as goal
 

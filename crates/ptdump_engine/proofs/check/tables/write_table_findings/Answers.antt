@@ -5,7 +5,7 @@ use Rattle.ptdump_check.specs.Findings.{all_named_often, findings_by, flawed_ent
 use Rattle.ptdump_check.specs.declared.findings.finding.EntryFlaw.TheVariants as flaws
 use Rattle.ptdump_engine.specs.CheckReports.{said_of}
 use Rattle.ptdump_engine.proofs.BothLines.{both_lines}
-use Rattle.ptdump_engine.proofs.Results.{on_ok}
+use Rattle.ptdump_json.proofs.Results.{on_ok}
 use Rattle.ptdump_engine.proofs.check.tables.write_table_findings.Goals as goal
 
 pub returns : goal.returns

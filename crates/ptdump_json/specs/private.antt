@@ -1,0 +1,4 @@
+pub mod Flags
+pub mod NoFloats
+pub mod Objects
+pub mod Reported
