@@ -1,7 +1,7 @@
 -- What a drop of a range leaves of the caller's tables and pool, and the status that it has.
 use Rattle.std.proofs.Common.{◌≡◌, ◌+◌, ℕ, List, Option, Some, None, refl, sym, ◌∙◌, subst, subst₂, unwrap_or}
 use Rattle.x86_64_live.specs.DroppedRanges.{DropsRange, EndsAtPage}
-use Rattle.x86_64_live.specs.PageRanges.{AllWhole, ExchangesPages, HasNoPage, pages_between, reached}
+use Rattle.x86_64_live.specs.PageRanges.{AllWhole, ExchangesPages, HasNoPage, pages_between}
 use Rattle.x86_64_live.specs.declared.ranges.RangeEnd.{RangeEnd}
 use Rattle.x86_64_live.specs.declared.ranges.RangeEnd.TheVariants.{All, More, LargerPage}
 use Rattle.x86_64_model.specs.Entry.{IsParentFlags, used}

@@ -1,6 +1,7 @@
 -- What a mapper did with a pool is the machine's step, stated of the words in the caller's memory.
 use Rattle.std.proofs.Common.{zero, suc, ◌≡◌, ◌<◌, ◌≤◌, ℕ, true, false, cond, List, [], Option, Some, option_map, Result, Ok, Err, refl, sym, ap, ◌∙◌, subst, lit≤, arith}
 use Rattle.std.specs.Result.{IfOk}
+use Rattle.x86_64_live.proofs.CleanUpsInWords.{clean_up_did as in_words}
 use Rattle.x86_64_model.proofs.Lemmas.Machines.Owners.{clean_up_leads}
 use Rattle.x86_64_model.specs.Call as machine
 use Rattle.x86_64_model.specs.Call.{Call}
@@ -168,6 +169,10 @@ module _ (l : Layout) (store : Store) (m : Memory) (page frame given more : ℕ)
         (mapped_on Giant 3 (lit≤ tt) (lit≤ tt) (Of1GiB map) reply.Of1GiB refl refl (λ r. refl) (λ r. refl) r same told)
 
 -- ---- clean ups
+
+pub clean_up_did : {Lent : Type 0} (h after : Hierarchy Lent) (l : Layout) (m n : Memory) → h.layout ≡ l → h.memory ≡ m → after.memory ≡ n
+    → (take_back : List ℕ → ℕ → List ℕ) (held : List ℕ) (low high : ℕ) (left : List ℕ) → CleansUp h take_back held low high after left → CleansUp (of l m) take_back held low high (of l n) left
+clean_up_did h after l m n layout memory gone = in_words h l m layout memory after n gone
 
 -- a clean up of a pool whose free frames are those that it holds
 pub cleaned : (l : Layout) (store rest : Store) → rest.serves ≡ store.serves → (m n : Memory) (low high : ℕ) (held left : List ℕ) → store.frames ≡ held → rest.frames ≡ left → IsParentFlags l.added_flags → TakesBack store.take_back
