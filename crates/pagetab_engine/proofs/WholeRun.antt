@@ -3,7 +3,7 @@ use Rattle.std.proofs.Common.{◌≡◌, ◌∙◌, ℕ, suc, Bool, true, false,
 use Rattle.std.specs.Bool.{⊤, Decides}
 use Rattle.std.specs.Io.KnownBytes.{Appends}
 use Rattle.std.specs.List.{flat_map}
-use Rattle.pagetab_engine.specs.Arguments.{SaysArguments, arguments_in}
+use Rattle.pagetab_engine.specs.Arguments.{arguments_in}
 use Rattle.pagetab_engine.specs.Commands.{Command}
 use Rattle.pagetab_engine.specs.Hierarchy.{FitsImage, ModeReaches}
 use Rattle.pagetab_engine.specs.Image.{first_situation, fits, nothing_loaded}
@@ -20,7 +20,6 @@ use Rattle.pagetab_engine.specs.declared.ending.Fault.{Fault}
 use Rattle.pagetab_engine.specs.declared.ending.Fault.TheVariants.{BadLine, InvalidHierarchy, OutOfMemory, Input, Output, Usage}
 use Rattle.pagetab_engine.specs.declared.hierarchy.Hierarchy.{Hierarchy}
 use Rattle.pagetab_engine.specs.private.RunParts.{IsEmpty, IsFirst, IsFirstShown, LoadsImage, RunsFrom, Served, StopsInImage, loaded_of, read_into, situation_of}
-use Rattle.pagetab_engine.proofs.ArgumentsRead.{arguments_read, not_read}
 use Rattle.pagetab_engine.proofs.Fitting.{fits_tell}
 use Rattle.pagetab_engine.proofs.LoadedLines.{empty_reached, empty_told}
 use Rattle.pagetab_engine.proofs.Numbering.{MayFollow, some_input}
@@ -50,13 +49,10 @@ module _ (words : List (List ℕ)) (known : Option (List ℕ)) (old : Option (Li
   ends_in_usage : ((input : List ℕ) → transcript words input ≡ ending_alone (Stopped Usage)) → ForSome (IsInput known) (λ input. Runs words input old old (Stopped Usage))
   ends_in_usage is = let some = some_input known in (some.0, some.1, record { may_end = tt; told = told_nothing old (transcript words some.0) (Stopped Usage) (is some.0) })
 
-  pub no_arguments : ((arguments : Arguments) → ¬ (SaysArguments words arguments)) → ForSome (IsInput known) (λ input. Runs words input old old (Stopped Usage))
-  no_arguments none = ends_in_usage (λ input. ap (λ arguments. transcript_with arguments input) (not_read words none))
+  pub no_arguments : arguments_in words ≡ None → ForSome (IsInput known) (λ input. Runs words input old old (Stopped Usage))
+  no_arguments none = ends_in_usage (λ input. ap (λ arguments. transcript_with arguments input) none)
 
-  module _ (arguments : Arguments) (says : SaysArguments words arguments) where
-    are : arguments_in words ≡ Some arguments
-    are = arguments_read words arguments says
-
+  module _ (arguments : Arguments) (are : arguments_in words ≡ Some arguments) where
     pub no_memory : ForSome (IsInput known) (λ input. Runs words input old old (Stopped OutOfMemory))
     no_memory =
         let some = some_input known in

@@ -1,8 +1,8 @@
 -- The fields of a line as texts.
-use Rattle.std.specs.Prelude.{◌≡◌, ◌==◌, ◌&&◌, ◌^◌, nat_lt, ℕ, ⊤, Bool, true, false, cond, List, [], ◌∷◌, ◌++◌, bytes_eq, codes, drop, filter, find, Option, Some, None, option_and_then, option_map}
+use Rattle.std.specs.Prelude.{◌==◌, ◌&&◌, ◌^◌, nat_lt, ℕ, Bool, true, false, cond, List, [], ◌∷◌, bytes_eq, codes, drop, length, nat_le, filter, find, Option, Some, None, option_and_then, option_map}
 use Rattle.std.specs.Char.{digit_value}
 use Rattle.std.specs.List.{list_all, slice_split}
-use Rattle.text.specs.Numbers.{IsNumber, digits_of, number_of, radix_of}
+use Rattle.text.specs.Numbers.{digits_of, number_of, radix_of}
 use Rattle.pagetab_engine.specs.declared.fields.Name.{Name}
 use Rattle.pagetab_engine.specs.declared.fields.Name.TheVariants.{Word, Free, Translate, Addr, Walk, Show, Pool, Map, MapWith, Identity, Unmap, Update, P5, P4, P3, P2, TranslatePage, CleanUp, CleanUpRange}
 use Rattle.pagetab_engine.specs.declared.fields.Size.{Size}
@@ -81,10 +81,14 @@ is_numeral radix text = has_bytes text && list_all (λ byte. nat_lt (digit_value
 abbrev pub is_number : (text : List ℕ) → Bool
 is_number text = is_numeral (radix_of text) (digits_of text) && nat_lt (number_of text) (2 ^ 64)
 
+-- The number that a text is, if it is one.
+abbrev pub number_in : (text : List ℕ) → Option ℕ
+number_in text = cond (is_number text) (Some (number_of text)) None
+
 -- The numbers that these fields are, if each is one.
 abbrev pub numbers_in : (fields : List (List ℕ)) → Option (List ℕ)
 numbers_in [] = Some []
-numbers_in (field ∷ fields) = cond (is_number field) (option_map (λ numbers. number_of field ∷ numbers) (numbers_in fields)) None
+numbers_in (field ∷ fields) = option_and_then (λ number. option_map (λ numbers. number ∷ numbers) (numbers_in fields)) (number_in field)
 
 -- The parts of a line: a name, a size if the second field is one, and numbers.
 pub record Parts : Type 0 where
@@ -92,28 +96,26 @@ pub record Parts : Type 0 where
   pub size : Option Size
   pub numbers : List ℕ
 
+-- The parts of a line with this name, size and numbers.
+abbrev pub parts : Name → Option Size → (numbers : List ℕ) → Parts
+parts name size numbers = record { name = name; size = size; numbers = numbers }
+
 -- The parts with this name and size, and the numbers that follow the size in these fields, if only numbers follow.
 abbrev pub parts_with : Name → Option Size → (fields : List (List ℕ)) → Option Parts
-parts_with name size fields = option_map (λ numbers. record { name = name; size = size; numbers = numbers }) (numbers_in (behind_size size fields))
+parts_with name size fields = option_map (parts name size) (numbers_in (behind_size size fields))
 
 -- The parts that these fields are, if they are a name, a size or none, and numbers.
 abbrev pub parts_in : (fields : List (List ℕ)) → Option Parts
 parts_in [] = None
 parts_in (first ∷ fields) = option_and_then (λ name. parts_with name (size_first fields) fields) (name_in first)
 
--- ---- the same as facts, for the contracts of parsers
+-- ---- what the parser reads
 
--- The field for a size of pages, if there is one.
-abbrev pub size_texts : Option Size → List (List ℕ)
-size_texts None = []
-size_texts (Some size) = size_name size ∷ []
+-- These numbers, if there are at most four.
+abbrev pub at_most_four : Option (List ℕ) → Option (List ℕ)
+at_most_four None = None
+at_most_four (Some numbers) = cond (nat_le (length numbers) 4) (Some numbers) None
 
--- Each of the texts is a number, and these are their values in order.
-abbrev pub AreNumbers : (texts : List (List ℕ)) → (numbers : List ℕ) → Type 0
-AreNumbers [] [] = ⊤
-AreNumbers (text ∷ texts) (number ∷ numbers) = IsNumber text × (number_of text ≡ number) × AreNumbers texts numbers
-AreNumbers texts numbers = ⊥
-
--- The fields of a line are the texts of a name, of a size if there is one, and of numbers.
-abbrev pub Says : (line : List ℕ) → Name → Option Size → (numbers : List ℕ) → Type 0
-Says line name size numbers = (texts : List (List ℕ)) × (fields_of line ≡ name_text name ∷ (size_texts size ++ texts)) × AreNumbers texts numbers
+-- The parts that these fields are, if they are any with at most four numbers.
+abbrev pub short_parts : (fields : List (List ℕ)) → Option Parts
+short_parts fields = option_and_then (λ parts. cond (nat_le (length parts.numbers) 4) (Some parts) None) (parts_in fields)

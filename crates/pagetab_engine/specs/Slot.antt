@@ -1,12 +1,17 @@
 -- Words in memory, by the places of tables (a place is the index of a table in memory).
-use Rattle.std.specs.Prelude.{◌/◌, ℕ, List, Option, Some, None, slice_set, slice_index}
+use Rattle.std.specs.Prelude.{◌/◌, ℕ, List, Option, Some, None, option_and_then, option_map, slice_set, slice_index}
 use Rattle.std.specs.FinMap.{get, insert}
 use Rattle.x86_64_model.specs.Memory.{Memory}
+use Rattle.pagetab_engine.specs.Starts.{index_in, table_in}
 use Rattle.pagetab_engine.specs.declared.slot.Slot.{Slot}
 
 -- The slot at an index of the table in the frame that starts at an address: the table's place is the frame's number.
 abbrev pub slot_at : (start index : ℕ) → Slot
 slot_at start index = record { place = start / 4096; index = index }
+
+-- The slot at an index of the table in the frame that starts at an address, if it is one in a memory with this number of places.
+abbrev pub slot_in : (places start index : ℕ) → Option Slot
+slot_in places start index = option_and_then (λ frame. option_map (slot_at frame) (index_in index)) (table_in places start)
 
 -- The word at an index of a table, or 0 if there is no table.
 abbrev pub word_of_table : Option (List ℕ) → (index : ℕ) → ℕ

@@ -1,6 +1,6 @@
 //! The fields of a line, which are separated by spaces.
-ghost use Rattle.std.specs.Prelude.{◌≡◌, ◌≢◌, ◌≤◌, ℕ, Option, List, [], ◌∷◌, ◌++◌, length, MatchOption, IfSome, IfNone, take};
-ghost use Rattle.pagetab_engine.specs.Fields.{fields_of, name_text, size_name, size_texts, AreNumbers, Says};
+ghost use Rattle.std.specs.Prelude.{◌≡◌, ◌≤◌, [], ◌∷◌, MatchOption, IfSome, option_map, take};
+ghost use Rattle.pagetab_engine.specs.Fields.{at_most_four, behind_size, fields_of, name_in, name_text, number_in, numbers_in, parts, short_parts, size_first, size_in};
 
 use text::parse_number;
 
@@ -103,8 +103,7 @@ impl Name {
 
     /// Parses a name.
     fn parse(field: &str) -> Option<Name>
-        ensures found { IfSome result (λ name. name_text name ≡ field.now) }
-        ensures none { IfNone result ((name : Name) → name_text name ≢ field.now) }
+        ensures { result ≡ name_in field.now }
     {
         for name in Name::ALL {
             if name.text() == field {
@@ -129,8 +128,7 @@ pub enum Size {
 impl Size {
     /// Parses SIZE.
     fn parse(field: &str) -> Option<Size>
-        ensures found { IfSome result (λ size. size_name size ≡ field.now) }
-        ensures none { IfNone result ((size : Size) → size_name size ≢ field.now) }
+        ensures { result ≡ size_in field.now }
     {
         match field.as_bytes() {
             b"4KiB" => Some(Size::Size4KiB),
@@ -157,13 +155,8 @@ impl Fields {
     /// Parses a line. Returns `None` if and only if it has no name, a field that is no number, or more numbers than
     /// any statement has.
     pub fn parse(line: &str) -> Option<Fields>
-        ensures says { IfSome result (λ fields.
-            Says line.now fields.name fields.size (take fields.count fields.numbers)) }
-        ensures only { IfSome result (λ fields. (name : Name) (size : Option Size) (numbers : List ℕ) →
-            Says line.now name size numbers →
-            (name ≡ fields.name) × (size ≡ fields.size) × (numbers ≡ take fields.count fields.numbers)) }
-        ensures none { IfNone result ((name : Name) (size : Option Size) (numbers : List ℕ) →
-            length numbers ≤ 4 → ¬ (Says line.now name size numbers)) }
+        ensures { option_map (λ fields. parts fields.name fields.size (take fields.count fields.numbers))
+            result ≡ short_parts (fields_of line.now) }
     {
         let mut rest = Rest { text: line };
         let name = Name::parse(rest.next_field()?)?;
@@ -212,9 +205,8 @@ impl<'a> Rest<'a> {
 
     /// Parses SIZE, and leaves the next field if it is no size.
     fn next_size(&mut self) -> Option<Size>
-        ensures read { fields_of self.old.text.now ≡ size_texts result ++ fields_of self.new.text.now }
-        ensures none { IfNone result ((size : Size) (rest : List (List ℕ)) →
-            fields_of self.old.text.now ≢ size_name size ∷ rest) }
+        ensures size { result ≡ size_first (fields_of self.old.text.now) }
+        ensures rest { fields_of self.new.text.now ≡ behind_size result (fields_of self.old.text.now) }
     {
         let mut ahead = Rest { text: self.text };
         let size = Size::parse(ahead.next_field()?)?;
@@ -225,14 +217,12 @@ impl<'a> Rest<'a> {
     /// Parses all remaining fields as numbers, and returns how many there are.
     fn read_numbers(&mut self, numbers: &mut [u64; MOST_NUMBERS]) -> Option<usize>
         ensures few { IfSome result (λ count. count ≤ 4) }
-        ensures read { IfSome result (λ count.
-            AreNumbers (fields_of self.old.text.now) (take count numbers.new)) }
-        ensures none { IfNone result ((others : List ℕ) →
-            length others ≤ 4 → ¬ (AreNumbers (fields_of self.old.text.now) others)) }
+        ensures numbers { option_map (λ count. take count numbers.new) result
+            ≡ at_most_four (numbers_in (fields_of self.old.text.now)) }
     {
         for (count, number) in numbers.iter_mut().enumerate() {
             match self.next_field() {
-                Some(field) => *number = parse_number(field)?,
+                Some(field) => *number = read_number(field)?,
                 None => return Some(count),
             }
         }
@@ -241,4 +231,11 @@ impl<'a> Rest<'a> {
             None => Some(MOST_NUMBERS),
         }
     }
+}
+
+/// Parses a number, as [`parse_number`] does.
+pub fn read_number(text: &str) -> Option<u64>
+    ensures { result ≡ number_in text.now }
+{
+    parse_number(text)
 }

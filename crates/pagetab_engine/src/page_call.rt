@@ -1,8 +1,8 @@
 //! Calls on pages, as lines write them.
-ghost use Rattle.std.specs.Prelude.{◌≡◌, ◌↔◌, [], ◌∷◌, Some, IsSome, IfSome};
+ghost use Rattle.std.specs.Prelude.{◌≡◌, [], ◌∷◌, option_map};
 ghost use Rattle.x86_64.specs.Calls.{to_call, size_asks};
-ghost use Rattle.pagetab_engine.specs.Starts.{IsPageStart, IsFrameStart, position_at};
-ghost use Rattle.pagetab_engine.specs.PageCalls.{IsPageCall, bytes_of, call_by, page_call_by};
+ghost use Rattle.pagetab_engine.specs.Starts.{frame_in, page_in};
+ghost use Rattle.pagetab_engine.specs.PageCalls.{call_in, page_call_in};
 
 use crate::fields::{Name, Size};
 use bitflags::Flags;
@@ -17,9 +17,7 @@ pub fn parse_call<L: LevelCount, P5: LevelFiveFlags<L>>(
     size: Size,
     numbers: &[u64],
 ) -> Option<CallIn<L, P5>>
-    ensures accepted { IsSome result ↔ IsPageCall L.LEVELS (bytes_of size) name numbers.now }
-    ensures writes { IfSome result (λ call.
-        call_by L.LEVELS size name numbers.now ≡ Some (to_call P5.bits call)) }
+    ensures { option_map (to_call P5.bits) result ≡ call_in L.LEVELS size name numbers.now }
 {
     Some(match size {
         Size::Size4KiB => CallIn::Of4KiB(parse_size_call(name, numbers)?),
@@ -33,9 +31,7 @@ fn parse_size_call<S: PageSize, L: LevelCount, P5: LevelFiveFlags<L>>(
     name: Name,
     numbers: &[u64],
 ) -> Option<SizeCallIn<S, L, P5>>
-    ensures accepted { IsSome result ↔ IsPageCall L.LEVELS S.SIZE name numbers.now }
-    ensures writes { IfSome result (λ call.
-        page_call_by L.LEVELS name numbers.now ≡ Some (size_asks P5.bits call)) }
+    ensures { option_map (size_asks P5.bits) result ≡ page_call_in L.LEVELS S.SIZE name numbers.now }
 {
     match (name, numbers) {
         (_, [start, flags]) => parse_flags_call(name, *start, *flags),
@@ -68,9 +64,8 @@ fn parse_flags_call<S: PageSize, L: LevelCount, P5: LevelFiveFlags<L>>(
     start: u64,
     flags: u64,
 ) -> Option<SizeCallIn<S, L, P5>>
-    ensures accepted { IsSome result ↔ IsPageCall L.LEVELS S.SIZE name (start ∷ flags ∷ []) }
-    ensures writes { IfSome result (λ call.
-        page_call_by L.LEVELS name (start ∷ flags ∷ []) ≡ Some (size_asks P5.bits call)) }
+    ensures { option_map (size_asks P5.bits) result
+        ≡ page_call_in L.LEVELS S.SIZE name (start ∷ flags ∷ []) }
 {
     let flags = PageTableFlags::from_bits_retain(flags);
     Some(match name {
@@ -105,8 +100,7 @@ fn parse_flags_call<S: PageSize, L: LevelCount, P5: LevelFiveFlags<L>>(
 /// Returns the page that starts at an address, or `None` if the address isn't canonical or isn't a multiple of the
 /// size.
 pub fn page_at<S: PageSize, L: LevelCount>(start: u64) -> Option<PageIn<S, L>>
-    ensures fits { IsSome result ↔ IsPageStart L.LEVELS S.SIZE start }
-    ensures start { IfSome result (λ page. page ≡ position_at L.LEVELS start) }
+    ensures { result ≡ page_in L.LEVELS S.SIZE start }
 {
     let address = VirtAddrIn::checked_new(start)?;
     PageIn::from_start_address(address).ok()
@@ -115,8 +109,7 @@ pub fn page_at<S: PageSize, L: LevelCount>(start: u64) -> Option<PageIn<S, L>>
 /// Returns the frame that starts at an address, or `None` if the address isn't below 2^52 or isn't a multiple of the
 /// size.
 fn frame_at<S: PageSize>(start: u64) -> Option<PhysFrame<S>>
-    ensures fits { IsSome result ↔ IsFrameStart S.SIZE start }
-    ensures start { IfSome result (λ frame. frame ≡ start) }
+    ensures { result ≡ frame_in S.SIZE start }
 {
     match PhysAddr::try_new(start) {
         Ok(address) => PhysFrame::from_start_address(address).ok(),

@@ -1,7 +1,7 @@
 //! Words in memory.
-ghost use Rattle.std.specs.Prelude.{◌≡◌, ◌<◌, ◌/◌, ◌↔◌, IsSome, IfSome};
-ghost use Rattle.pagetab_engine.specs.Slot.{slot_at, word_at_place, stored};
-ghost use Rattle.pagetab_engine.specs.Starts.{IsTableStart};
+ghost use Rattle.std.specs.Prelude.{◌≡◌, ◌/◌};
+ghost use Rattle.pagetab_engine.specs.Slot.{slot_in, word_at_place, stored};
+ghost use Rattle.pagetab_engine.specs.Starts.{index_in, table_in};
 
 use x86_64::structures::paging::page_table::PageTableIndex;
 use x86_64::structures::paging::{PageSize, PhysFrame, Size4KiB};
@@ -24,19 +24,6 @@ impl Slot {
         Slot {
             place: FramePlace::new(number),
             index,
-        }
-    }
-
-    /// Returns the slot of [`at`](Self::at) for an index given as a number, or `None` if it isn't below 512.
-    pub fn new(frame: PhysFrame<Size4KiB>, index: u64) -> Option<Slot>
-        ensures fits { IsSome result ↔ (index < 512) }
-        ensures place { IfSome result (λ slot. slot.place ≡ frame / 4096) }
-        ensures index { IfSome result (λ slot. slot.index ≡ index) }
-    {
-        if index < 512 {
-            Some(Slot::at(frame, PageTableIndex::new(index as u16)))
-        } else {
-            None
         }
     }
 
@@ -64,8 +51,7 @@ impl Slot {
 ///
 /// Returns `None` if and only if no such frame starts there, or its number isn't below `places`.
 pub fn frame_at(start: u64, places: u64) -> Option<PhysFrame<Size4KiB>>
-    ensures fits { IsSome result ↔ IsTableStart places start }
-    ensures start { IfSome result (λ frame. frame ≡ start) }
+    ensures { result ≡ table_in places start }
 {
     let frame = PhysFrame::from_start_address(PhysAddr::try_new(start).ok()?).ok()?;
     if start / Size4KiB::SIZE < places {
@@ -80,8 +66,19 @@ pub fn frame_at(start: u64, places: u64) -> Option<PhysFrame<Size4KiB>>
 ///
 /// Returns `None` if and only if [`frame_at`] does, or `index` isn't below 512.
 pub fn slot_at(start: u64, index: u64, places: u64) -> Option<Slot>
-    ensures fits { IsSome result ↔ (IsTableStart places start × (index < 512)) }
-    ensures slot { IfSome result (λ slot. slot ≡ slot_at start index) }
+    ensures { result ≡ slot_in places start index }
 {
-    Slot::new(frame_at(start, places)?, index)
+    let frame = frame_at(start, places)?;
+    Some(Slot::at(frame, index_at(index)?))
+}
+
+/// Returns a number as an index of a table, or `None` if it isn't below 512.
+pub fn index_at(number: u64) -> Option<PageTableIndex>
+    ensures { result ≡ index_in number }
+{
+    if number < 512 {
+        Some(PageTableIndex::new(number as u16))
+    } else {
+        None
+    }
 }

@@ -1,7 +1,7 @@
 //! The statements that lines write.
-ghost use Rattle.std.specs.Prelude.{◌≡◌, ◌↔◌, Some, None, IsSome, IfSome, IfNone};
+ghost use Rattle.std.specs.Prelude.{◌≡◌, option_map};
 ghost use Rattle.pagetab_engine.specs.Commands.{statement_of};
-ghost use Rattle.pagetab_engine.specs.Statements.{IsPlain, IsStatement, plain_by, statement_by, statement_of_fields};
+ghost use Rattle.pagetab_engine.specs.Statements.{plain_in, statement_by, statement_of_fields};
 
 use crate::fields::{Fields, Name, Size};
 use crate::page_call::{page_at, parse_call};
@@ -45,9 +45,7 @@ impl<L: LevelCount, P5: LevelFiveFlags<L>> Statement<L, P5> {
     /// Parses a line without its line feed, for a memory with this number of places. Returns `None` if and only if
     /// the line is no statement.
     pub fn parse(line: &[u8], places: u64) -> Option<Self>
-        ensures says { IfSome result (λ statement.
-            statement_of_fields L.LEVELS places line.now ≡ Some (statement_of P5.bits statement)) }
-        ensures none { IfNone result (statement_of_fields L.LEVELS places line.now ≡ None) }
+        ensures { option_map (statement_of P5.bits) result ≡ statement_of_fields L.LEVELS places line.now }
     {
         let fields = Fields::parse(str::from_utf8(line).ok()?)?;
         Self::from_fields(fields.name, fields.size, fields.numbers(), places)
@@ -55,9 +53,8 @@ impl<L: LevelCount, P5: LevelFiveFlags<L>> Statement<L, P5> {
 
     /// Returns the statement that fields write, or `None` if there is none.
     fn from_fields(name: Name, size: Option<Size>, numbers: &[u64], places: u64) -> Option<Self>
-        ensures accepted { IsSome result ↔ IsStatement L.LEVELS places name size numbers.now }
-        ensures writes { IfSome result (λ statement.
-            statement_by L.LEVELS name size numbers.now ≡ Some (statement_of P5.bits statement)) }
+        ensures { option_map (statement_of P5.bits) result
+            ≡ statement_by L.LEVELS places name size numbers.now }
     {
         match size {
             Some(size) => {
@@ -70,9 +67,7 @@ impl<L: LevelCount, P5: LevelFiveFlags<L>> Statement<L, P5> {
 
     /// The part of [`from_fields`](Self::from_fields) for lines without SIZE.
     fn from_plain_fields(name: Name, numbers: &[u64], places: u64) -> Option<Self>
-        ensures accepted { IsSome result ↔ IsPlain L.LEVELS places name numbers.now }
-        ensures writes { IfSome result (λ statement.
-            plain_by L.LEVELS name numbers.now ≡ Some (statement_of P5.bits statement)) }
+        ensures { option_map (statement_of P5.bits) result ≡ plain_in L.LEVELS places name numbers.now }
     {
         match (name, numbers) {
             (Name::Word, [frame, index, value]) => Some(Statement::Image(ImageLine::Word {

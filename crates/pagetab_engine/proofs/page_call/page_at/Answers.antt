@@ -1,8 +1,9 @@
-use Rattle.std.proofs.Common.{refl}
-use Rattle.pagetab_engine.proofs.Alignment.{starts_page}
+use Rattle.std.proofs.Common.{refl, ◌∙◌}
+use Rattle.pagetab_engine.proofs.Alignment.{page_found}
 use Rattle.pagetab_engine.proofs.page_call.page_at.Goals as goal
 
-pub returns-clause-fits : goal.returns-clause-fits
-returns-clause-fits g c =
-    starts_page g.L.LevelCount.LEVELS c.args.start c.in_ok-address.address g.S.PageSize.SIZE g.S.PageSize.LEVEL c.from_start_address.result c.ok.result g.L.LevelCount.known_levels
-    g.S.PageSize.low g.S.PageSize.high g.S.PageSize.size c.in_ok-address.ensures.value (c.in_ok-address.ensures.canonical.0 refl) c.from_start_address.ensures.aligned c.ok.ensures.value
+pub returns : goal.returns
+returns g c =
+    c.ok.ensures.value ∙ page_found g.L.LevelCount.LEVELS c.args.start c.in_ok-address.address g.S.PageSize.SIZE g.S.PageSize.LEVEL c.from_start_address.result g.L.LevelCount.known_levels
+    g.S.PageSize.low g.S.PageSize.high g.S.PageSize.size c.in_ok-address.ensures.value c.in_ok-address.ensures.position (c.in_ok-address.ensures.canonical.0 refl)
+    c.from_start_address.ensures.aligned c.from_start_address.ensures.value

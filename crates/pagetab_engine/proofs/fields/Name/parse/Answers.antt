@@ -1,12 +1,14 @@
-use Rattle.std.proofs.Common.{◌<◌, ap, ◌∙◌, arith}
-use Rattle.std.proofs.lemmas.Grind.{common_steps}
-use Rattle.pagetab_engine.specs.Fields.{name_text}
+use Rattle.std.proofs.Common.{◌≡◌, ◌<◌, ◌+◌, bytes_eq, cond, drop, false, get_or, length, Some, ap, sym, ◌∙◌, arith}
+use Rattle.std.specs.List.{find}
+use Rattle.std.proofs.lemmas.List.{at_drop_more}
+use Rattle.pagetab_engine.specs.Fields.{all_names, name_text}
+use Rattle.pagetab_engine.specs.declared.fields.Name.{Name}
 use Rattle.pagetab_engine.specs.declared.fields.Name.TheVariants.{Word}
-use Rattle.pagetab_engine.proofs.Naming.{place, listed, below}
 use Rattle.pagetab_engine.proofs.fields.Name.parse.Goals as goal
 
-pub returns-clause-none : goal.returns-clause-none
-returns-clause-none c name is =
-    let low = below name in
-    let met : place name < c.loop-name.name-index = grind (arith, common_steps) in
-    c.loop-name.invariant (place name) Word met (ap name_text (listed name) ∙ is)
+pub loop-name-preserved : goal.loop-name-preserved
+loop-name-preserved c =
+    let field = c.args.field.now in let at = c.loop-name.name-index in
+    let other : bytes_eq (name_text (get_or all_names at Word)) field ≡ false = ap (λ text. bytes_eq text field) (sym c.text.ensures) ∙ sym c.eq.ensures ∙ c.if-eq.false in
+    let small : at < length all_names = omega arith in
+    c.loop-name.invariant ∙ at_drop_more (find (λ (name : Name). bytes_eq (name_text name) field)) all_names at Word small ∙ ap (λ b. cond b (Some (get_or all_names at Word)) (find (λ (name : Name). bytes_eq (name_text name) field) (drop (at + 1) all_names))) other

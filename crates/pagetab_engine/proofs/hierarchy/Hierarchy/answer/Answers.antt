@@ -1,11 +1,15 @@
-use Rattle.std.proofs.Common.{◌≡◌, refl, sym, ap, ◌∙◌, subst₂}
+use Rattle.std.proofs.Common.{◌≡◌, ℕ, arith, refl, sym, ap, ◌∙◌, subst₂}
+use Rattle.std.proofs.lemmas.Bool.Decides.{nat_tests}
 use Rattle.x86_64_model.specs.Position.{raw}
 use Rattle.x86_64_mappers.specs.Offsets.{OffsetFits}
 use Rattle.x86_64.specs.Calls.{to_call}
 use Rattle.pagetab_engine.specs.declared.arguments.Mode.TheVariants.{Direct, Offset, Recursive, Pair}
-use Rattle.pagetab_engine.proofs.ArgumentsRead.{one_position}
 use Rattle.pagetab_engine.proofs.ByMode.{here, fits_in, kept_in, kept_in_pair, twin_in}
 use Rattle.pagetab_engine.proofs.hierarchy.Hierarchy.answer.Goals as goal
+
+-- addresses with one raw value are at one position
+one_position : (p q : ℕ) → raw 4 p ≡ raw 4 q → p ≡ q
+one_position p q same = grind (arith, nat_tests)
 
 pub returns-in-Direct-clause-keeps : goal.returns-in-Direct-clause-keeps
 returns-in-Direct-clause-keeps g c =

@@ -1,4 +1,4 @@
-use Rattle.std.proofs.Common.{rules, ◌≡◌, ◌≤◌, ◌∙◌, suc, true, false, length, take, arith, Ok, Err, length-take}
+use Rattle.std.proofs.Common.{rules, ◌≡◌, ◌≤◌, ◌∙◌, sym, suc, true, false, length, take, arith, Ok, Err, length-take}
 use Rattle.pagetab_engine.specs.Commands.{statement_of}
 use Rattle.pagetab_engine.specs.Lines.{bytes_left, is_blank}
 use Rattle.pagetab_engine.specs.declared.ending.Fault.TheVariants.{Input}
@@ -40,9 +40,8 @@ returns-in-Some-parse-clause-next g c =
     let short = rw read at c.next_line.ensures.fits in
     let fits : length (take c.in-Text.length c.next_line.new.line) ≤ 256 = omega (arith, length-take c.in-Text.length c.next_line.new.line) in
     let some : is_blank (take c.in-Text.length c.next_line.new.line) ≡ false = blank_line _ _ fits c.is_blank.ensures ∙ c.if-is_blank.false in
-    let says = c.in-Some-parse.ensures in
     behind_blank _ _ _ _ c.loop-number.invariant.blank (statement_taken g.L.LevelCount.LEVELS c.args.places c.loop-number.self.number _ _ _ _ (statement_of g.P5.LevelFiveFlags.bits c.in-Some-parse.statement) counted some
-    (rw read at c.next_line.ensures.line) (short_line _ _ _ fits ∙ says.says))
+    (rw read at c.next_line.ensures.line) (short_line _ _ _ fits ∙ sym c.in-Some-parse.ensures))
 
 pub returns-in-None-clause-why : goal.returns-in-None-clause-why
 returns-in-None-clause-why g c =
@@ -52,7 +51,7 @@ returns-in-None-clause-why g c =
     let fits : length (take c.in-Text.length c.next_line.new.line) ≤ 256 = omega (arith, length-take c.in-Text.length c.next_line.new.line) in
     let some : is_blank (take c.in-Text.length c.next_line.new.line) ≡ false = blank_line _ _ fits c.is_blank.ensures ∙ c.if-is_blank.false in
     rw c.fault-in-None.ensures (begins_behind _ _ _ c.loop-number.invariant.blank (bad_taken g.L.LevelCount.LEVELS c.args.places c.loop-number.self.number _ _ _ _ counted some
-    (rw read at c.next_line.ensures.line) (short_line _ _ _ fits ∙ c.in-None.ensures.none)))
+    (rw read at c.next_line.ensures.line) (short_line _ _ _ fits ∙ sym c.in-None.ensures)))
 
 pub returns-in_err-map_err-clause-why : goal.returns-in_err-map_err-clause-why
 returns-in_err-map_err-clause-why g c =
