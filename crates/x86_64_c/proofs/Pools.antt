@@ -12,7 +12,7 @@ use Rattle.x86_64_c.specs.private.Pools.{stack}
 
 -- a pool serves the root if this is one of its own frames
 pub serves_root : (own : List ℕ) (array count : GName) (serves : ℕ → Bool) → serves ≡ served_by own array count → (L : ℕ) (places : Places) → IsMapping places → (root : ℕ) (m : Memory) (pool : List ℕ)
-    → PoolFits (owned_at L places root m tt) (is_in own) pool → is_in own root ≡ true → serves root ≡ true
+    → PoolFits (owned_at {Lent = Unit {0}} L places root m tt) (is_in own) pool → is_in own root ≡ true → serves root ≡ true
 serves_root own array count serves same L places maps root m pool fits among =
     let there = fits.valid.valid.holds.in_memory [] root refl in
     let frame = maps.frames root (covered m places root there) in

@@ -185,10 +185,11 @@ fn access_at<L: LevelCount, T: TableMemory, P: PageTableFrameMapping + Copy>(
 ) -> Result<PhysAddr, Fault>
     requires { controls.now.physical_bits ≤ 52 }
     ensures outcome { memory_unit.outcome_of result ≡ accesses.outcome_at
-        (given.at P.places L.LEVELS located (T.tables memory.old)) controls.now address (memory_unit.access_of asked) }
+        (given.at P.places L.LEVELS located (T.tables memory.old)) controls.now address
+        (memory_unit.access_of asked) }
     ensures marks { T.tables memory.new ≡ accesses.memory_at
-        (given.at P.places L.LEVELS located (T.tables memory.old)) controls.now address (memory_unit.access_of asked)
-        mark }
+        (given.at P.places L.LEVELS located (T.tables memory.old)) controls.now address
+        (memory_unit.access_of asked) mark }
     ensures keeps { accesses.StillFits (given.at P.places L.LEVELS located (T.tables memory.old))
         (given.at P.places L.LEVELS located (T.tables memory.new)) }
     ensures lent { T.lent memory.new ≡ T.lent memory.old }

@@ -47,7 +47,8 @@ pub trait EntryChange {
         requires good { wrong self.now L.LEVELS ≡ None }
         requires valid { Valid (given.at P.places L.LEVELS located (T.tables memory.old)) }
         ensures makes { makes self.now (given.at P.places L.LEVELS located (T.tables memory.old))
-            (path_at L.LEVELS S.LEVEL page) (given.at P.places L.LEVELS located (T.tables memory.new)) result }
+            (path_at L.LEVELS S.LEVEL page) (given.at P.places L.LEVELS located (T.tables memory.new))
+            result }
         ensures lent { T.lent memory.new ≡ T.lent memory.old };
 }
 

@@ -110,8 +110,8 @@ impl<'a> WholeMap<'a> {
         requires page { given.wrong_page L.LEVELS self.now.request.now.page ≡ None }
         requires is_page { given.IsPageOf L.LEVELS self.now.request.now.page S.LEVEL page }
         requires fits { calls.bad_map L.LEVELS self.now.request.now ≡ None
-            → pools.FitsIn self.now.own.frames (given.at P.places L.LEVELS located (T.tables memory.old)) array.old
-            self.now.free_count }
+            → pools.FitsIn self.now.own.frames (given.at P.places L.LEVELS located (T.tables memory.old))
+            array.old self.now.free_count }
         ensures bad { IfErr result (λ status. calls.bad_map L.LEVELS self.now.request.now ≡ Some status) }
         ensures unchanged { OnErr result ((T.tables memory.new ≡ T.tables memory.old)
             × (array.new ≡ array.old)) }
@@ -119,7 +119,8 @@ impl<'a> WholeMap<'a> {
         ensures does { IfOk result (λ mapped. RunsOrNothing self.now.own.frames
             (given.at P.places L.LEVELS located (T.tables memory.old)) array.old self.now.free_count
             (calls.map_asked L.LEVELS self.now.request.now)
-            (given.at P.places L.LEVELS located (T.tables memory.new)) array.new mapped.free_count mapped.out) }
+            (given.at P.places L.LEVELS located (T.tables memory.new)) array.new mapped.free_count
+            mapped.out) }
         ensures lent { T.lent memory.new ≡ T.lent memory.old }
     {
         let frame = frame_at::<S>(self.request.frame)?;

@@ -82,8 +82,8 @@ pub fn with_pool<L: LevelCount, T: TableMemory, P: PageTableFrameMapping + Copy,
     step: &S,
 ) -> Stepped<S::Out>
     requires in_array { free_count ≤ length array.old }
-    requires fits { pools.FitsIn own.now.frames (given.at P.places L.LEVELS located (T.tables memory.old)) array.old
-        free_count }
+    requires fits { pools.FitsIn own.now.frames (given.at P.places L.LEVELS located (T.tables memory.old))
+        array.old free_count }
     requires root { S.gives_root step.now ≡ true → is_in own.now.frames located.root ≡ true }
     ensures does { pools.Leaves own.now.frames array.old free_count array.new result.free_count
         (λ pool rest. S.does step.now (given.at P.places L.LEVELS located (T.tables memory.old)) pool

@@ -113,13 +113,14 @@ impl<'a> Preparation<'a> {
     ) -> Stepped<u32>
         requires in_array { self.now.free_count ≤ length array.old }
         requires is_page { given.IsPageOf L.LEVELS self.now.page.now S.LEVEL page }
-        requires fits { pools.FitsIn self.now.own.frames (given.at P.places L.LEVELS located (T.tables memory.old))
-            array.old self.now.free_count }
+        requires fits { pools.FitsIn self.now.own.frames
+            (given.at P.places L.LEVELS located (T.tables memory.old)) array.old self.now.free_count }
         ensures prepares { PreparesIn self.now.own.frames
             (given.at P.places L.LEVELS located (T.tables memory.old)) array.old self.now.free_count
             (given.level_of_page_size self.now.page.now.size)
             (given.position_of L.LEVELS self.now.page.now.start) self.now.parent_flags
-            (given.at P.places L.LEVELS located (T.tables memory.new)) array.new result.free_count result.out }
+            (given.at P.places L.LEVELS located (T.tables memory.new)) array.new result.free_count
+            result.out }
         ensures lent { T.lent memory.new ≡ T.lent memory.old }
     {
         let tables = TablesAbove {

@@ -196,8 +196,8 @@ impl<'a> MapFrom<'a> {
         requires size { self.now.request.now.page.size ≡ span S.LEVEL }
         requires is_page { given.IsPageOf L.LEVELS self.now.request.now.page S.LEVEL page }
         requires fits { ranges.bad_maps L.LEVELS self.now.request.now self.now.count ≡ None
-            → pools.FitsIn self.now.own.frames (given.at P.places L.LEVELS located (T.tables memory.old)) array.old
-            self.now.free_count }
+            → pools.FitsIn self.now.own.frames (given.at P.places L.LEVELS located (T.tables memory.old))
+            array.old self.now.free_count }
         ensures bad { IfErr result (λ status.
             ranges.bad_maps L.LEVELS self.now.request.now self.now.count ≡ Some status) }
         ensures unchanged { OnErr result ((T.tables memory.new ≡ T.tables memory.old)
@@ -207,7 +207,8 @@ impl<'a> MapFrom<'a> {
         ensures does { IfOk result (λ mapped. maps.MapsInPool self.now.own.frames
             (ranges.range_asked L.LEVELS self.now.request.now) self.now.count
             (given.at P.places L.LEVELS located (T.tables memory.old)) array.old self.now.free_count
-            (given.at P.places L.LEVELS located (T.tables memory.new)) array.new mapped.free_count mapped.out) }
+            (given.at P.places L.LEVELS located (T.tables memory.new)) array.new mapped.free_count
+            mapped.out) }
         ensures lent { T.lent memory.new ≡ T.lent memory.old }
     {
         let frame = first_frame::<S>(self.request.frame, self.count)?;
@@ -435,9 +436,9 @@ fn unmap_pages<S: PageSize, L: LevelCount, T: TableMemory, P: PageTableFrameMapp
 ) -> Unmapped
     requires valid { Valid (given.at P.places L.LEVELS located (T.tables memory.old)) }
     requires there { page + count * span S.LEVEL ≤ position_count L.LEVELS }
-    ensures unmaps { ranges.UnmapsRange (given.at P.places L.LEVELS located (T.tables memory.old)) S.LEVEL page count
-        frames.old (given.at P.places L.LEVELS located (T.tables memory.new)) (ranges.end_status result.done count)
-        frames.new result.frame_count result.done }
+    ensures unmaps { ranges.UnmapsRange (given.at P.places L.LEVELS located (T.tables memory.old)) S.LEVEL page
+        count frames.old (given.at P.places L.LEVELS located (T.tables memory.new))
+        (ranges.end_status result.done count) frames.new result.frame_count result.done }
     ensures lent { T.lent memory.new ≡ T.lent memory.old }
 {
     let most = count.min(frames.len() as u64);
@@ -557,8 +558,8 @@ fn update_pages<S: PageSize, L: LevelCount, T: TableMemory, P: PageTableFrameMap
 ) -> Option<u64>
     requires valid { Valid (given.at P.places L.LEVELS located (T.tables memory.old)) }
     requires there { page + count * span S.LEVEL ≤ position_count L.LEVELS }
-    ensures updates { maps.TellsUpdates (given.at P.places L.LEVELS located (T.tables memory.old)) S.LEVEL page
-        (bits_of flags) count (given.at P.places L.LEVELS located (T.tables memory.new)) result }
+    ensures updates { maps.TellsUpdates (given.at P.places L.LEVELS located (T.tables memory.old)) S.LEVEL
+        page (bits_of flags) count (given.at P.places L.LEVELS located (T.tables memory.new)) result }
     ensures lent { T.lent memory.new ≡ T.lent memory.old }
 {
     if flags.has_address_bits() {
