@@ -1,5 +1,7 @@
 -- What is told of a range, whatever the number of levels.
-use Rattle.std.proofs.Common.{◌≡◌, ℕ, Bool, List, Option, Some, None, Result, Ok, Err, IfOk, IfErr, unwrap_or, refl, sym, ◌∙◌, subst₂}
+use Rattle.std.proofs.Common.{◌≡◌, ℕ, Bool, List, Option, Some, None, Result, Ok, Err, IfOk, IfErr, OnErr, unwrap_or, refl, sym, ◌∙◌, subst₂}
+use Rattle.x86_64_tables.specs.LentMemory.{numbered}
+use Rattle.x86_64_c.proofs.ArgumentsGiven.{kept}
 use Rattle.x86_64_c.specs.WordRanges.{TellsPages, range_next, range_status}
 use Rattle.x86_64_live.specs.PageRanges.{SeesPages, reached}
 use Rattle.x86_64_live.specs.declared.ranges.PageWord.{PageWord}
@@ -66,3 +68,9 @@ told_list (Ok out) h wanted first last before after Same wrong status count was 
   told.2,
 )
 told_list (Err why) h wanted first last before after Same wrong status count was next does told bad good = absurd (let e : None ≡ Some why = sym good ∙ bad in cc)
+
+-- an entered call that leaves the memory, or is refused, leaves the tables
+pub same_tables : (result : Result Ended ℕ) (ts us : List (List ℕ)) (Told : Ended → Type 0) (Other : Type 0)
+    → IfOk result (λ out. (numbered us ≡ numbered ts) × Told out) → OnErr result ((us ≡ ts) × Other) → us ≡ ts
+same_tables (Ok out) ts us Told Other does unchanged = kept ts us does.0
+same_tables (Err why) ts us Told Other does unchanged = unchanged.0

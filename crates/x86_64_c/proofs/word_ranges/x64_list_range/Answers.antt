@@ -1,5 +1,5 @@
 use Rattle.std.proofs.Common.{◌≡◌, length}
-use Rattle.x86_64_c.proofs.WordRangesTold.{told_list}
+use Rattle.x86_64_c.proofs.WordRangesTold.{same_tables, told_list}
 use Rattle.x86_64_c.specs.Arguments.{hierarchy_in}
 use Rattle.x86_64_c.specs.WordRanges.{bad_word_range}
 use Rattle.x86_64_model.specs.Entry.{used}
@@ -12,3 +12,7 @@ returns-clause-lists c good =
     ((hierarchy_in c.args.hierarchy.now c.enter-told.new.tables).memory ≡ h.memory)
     (bad_word_range c.args.hierarchy.now (length c.args.tables.now) c.args.first c.args.last)
     c.tell.result c.tell.new.count c.args.next.now c.tell.new.next c.enter-told.ensures.does c.tell.ensures.good c.enter-told.ensures.bad good
+
+pub returns-clause-tables : goal.returns-clause-tables
+returns-clause-tables c =
+    same_tables c.enter-told.result c.args.tables.now c.enter-told.new.tables _ _ c.enter-told.ensures.does c.enter-told.ensures.unchanged
