@@ -1,5 +1,6 @@
 //! Ranges of pages of all sizes
 
+mod drops;
 mod search;
 
 use crate::addresses::addr::VirtAddrIn;
@@ -8,7 +9,8 @@ use crate::pages::frame::PhysFrame;
 use crate::pages::page::{PageIn, Size4KiB};
 use crate::pages::range::{Block, BlockRangeInclusive};
 use crate::tables::phys_memory::{index_of, PageTableFrameMapping, TableMemory};
-use search::{next_page, Cursor, Found, Spot, Wanted};
+pub use drops::drop_range;
+use search::{next_page, Cursor, Spot, Wanted};
 
 /// The bits of an entry that say what it names: `HUGE_PAGE`, and the address, bits 12 to 51.
 const KIND_BITS: u64 = 0x000f_ffff_ffff_f080;
@@ -114,26 +116,21 @@ pub fn list_range<L: LevelCount, T: TableMemory, P: PageTableFrameMapping>(
     range: BlockRangeInclusive<PageIn<Size4KiB, L>>,
     pages: &mut [PageWord],
 ) -> RangeSeen<L> {
-    let end = range.end.place() + 4096;
+    let end = end_of(range);
     let mut cursor = Cursor::at_root::<L>(range.start.place(), root);
     let mut count = 0;
-    'pages: loop {
-        match next_page::<L, T, P>(memory, mapping, root, end, Wanted::Used, &cursor) {
-            Found::All => {
-                return RangeSeen { count, end: RangeEnd::All };
-            }
-            Found::LargerPage(spot) => {
-                return RangeSeen { count, end: RangeEnd::LargerPage(PageIn::at(spot.position)) };
-            }
-            Found::Page(spot) => {
-                if count == pages.len() {
-                    return RangeSeen { count, end: RangeEnd::More(PageIn::at(spot.position)) };
-                }
-                pages[count] = word_told::<L>(&spot);
-                count += 1;
-                cursor = spot.past::<L>(root);
-            }
+    loop {
+        let spot = match next_page::<L, T, P>(memory, mapping, root, end, Wanted::Used, cursor) {
+            Ok(spot) => spot,
+            Err(end) => return RangeSeen { count, end },
+        };
+        if count == pages.len() {
+            let end = RangeEnd::More(PageIn::at(spot.position));
+            return RangeSeen { count, end };
         }
+        pages[count] = word_told::<L>(&spot);
+        count += 1;
+        cursor = spot.past::<L>(root);
     }
 }
 
@@ -178,7 +175,7 @@ pub fn take_range<L: LevelCount, T: TableMemory, P: PageTableFrameMapping>(
 /// # Proved
 ///
 /// ```text
-/// ensures { IsTrue result ↔ AreFlagMasks keep set }
+/// ensures { result ≡ are_flag_masks keep set }
 /// ```
 #[inline]
 pub fn are_flag_masks(keep: u64, set: u64) -> bool {
@@ -204,7 +201,7 @@ pub fn are_flag_masks(keep: u64, set: u64) -> bool {
 ///
 /// ```text
 /// requires valid { Valid (direct_at L.LEVELS (P.places mapping.now) root laid_in T.tables memory.old) }
-/// requires masks { AreFlagMasks keep set }
+/// requires masks { are_flag_masks keep set ≡ true }
 /// ensures sees { SeesPages L.LEVELS present (paths (direct_at L.LEVELS (P.places mapping.now) root laid_in T.tables memory.old)) range.start range.end pages.old pages.new result }
 /// ensures changes { let layout = direct_at L.LEVELS (P.places mapping.now) root in ExchangesPages layout (by_masks keep set) (pages_between L.LEVELS present (paths (layout laid_in T.tables memory.old)) range.start (reached range.end result.end)) (T.tables memory.old) (T.tables memory.new) }
 /// ensures lent { T.lent memory.new ≡ T.lent memory.old }
@@ -245,24 +242,19 @@ fn change_pages<L: LevelCount, T: TableMemory, P: PageTableFrameMapping>(
     let end = end_of(range);
     let mut cursor = Cursor::at_root::<L>(range.start.place(), root);
     let mut count = 0;
-    'pages: loop {
-        match next_page::<L, T, P>(memory, mapping, root, end, wanted, &cursor) {
-            Found::All => {
-                return RangeSeen { count, end: RangeEnd::All };
-            }
-            Found::LargerPage(spot) => {
-                return RangeSeen { count, end: RangeEnd::LargerPage(PageIn::at(spot.position)) };
-            }
-            Found::Page(spot) => {
-                if count == pages.len() {
-                    return RangeSeen { count, end: RangeEnd::More(PageIn::at(spot.position)) };
-                }
-                pages[count] = word_told::<L>(&spot);
-                count += 1;
-                set_word_at(memory, mapping, &spot, spot.word & masks.keep | masks.set);
-                cursor = spot.past::<L>(root);
-            }
+    loop {
+        let spot = match next_page::<L, T, P>(memory, mapping, root, end, wanted, cursor) {
+            Ok(spot) => spot,
+            Err(end) => return RangeSeen { count, end },
+        };
+        if count == pages.len() {
+            let end = RangeEnd::More(PageIn::at(spot.position));
+            return RangeSeen { count, end };
         }
+        pages[count] = word_told::<L>(&spot);
+        count += 1;
+        set_word_at(memory, mapping, &spot, spot.word & masks.keep | masks.set);
+        cursor = spot.past::<L>(root);
     }
 }
 

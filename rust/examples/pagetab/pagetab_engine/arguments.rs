@@ -1,25 +1,10 @@
 //! The program's arguments.
 
+use crate::pagetab_engine::fields::read_number;
+use crate::pagetab_engine::slot::index_at;
 use x86_64_paging::addresses::level_count::Levels;
 use x86_64_paging::structures::paging::PageTableIndex;
-use x86_64_paging::text::parse_number;
 use x86_64_paging::{CallIn, LevelCount, LevelFiveFlags, VirtAddr};
-
-/// Returns the word for the recursive mapper.
-fn recursive_word(levels: Levels) -> &'static str {
-    match levels {
-        Levels::Four => "recursive",
-        Levels::Five => "recursive5",
-    }
-}
-
-/// Returns the word for a pair of mappers.
-fn pair_word(levels: Levels) -> &'static str {
-    match levels {
-        Levels::Four => "pair",
-        Levels::Five => "pair5",
-    }
-}
 
 /// How tables are found in memory, and the number of levels. A place is the index of a table in memory.
 #[derive(Clone, Copy)]
@@ -79,32 +64,29 @@ impl Arguments {
 
 /// Parses the word of a mode without a number, `direct` or `direct5`. Returns `None` if it is neither.
 fn parse_word(word: &str) -> Option<Mode> {
-    match word.as_bytes() {
-        b"direct" => Some(Mode::Direct(Levels::Four)),
-        b"direct5" => Some(Mode::Direct(Levels::Five)),
-        _ => None,
+    if word == "direct" {
+        Some(Mode::Direct(Levels::Four))
+    } else if word == "direct5" {
+        Some(Mode::Direct(Levels::Five))
+    } else {
+        None
     }
 }
 
 /// Parses the word of a mode with a number: `offset` with OFF, or `recursive`, `recursive5`, `pair` or `pair5` with
 /// R. Returns `None` if they are none of these.
 fn parse_mode(word: &str, number: &str) -> Option<Mode> {
+    let number = read_number(number)?;
     if word == "offset" {
-        return Some(Mode::Offset(parse_address(number)?));
-    }
-    match parse_recursive(Levels::Four, word, number) {
-        Some(mode) => Some(mode),
-        None => parse_recursive(Levels::Five, word, number),
-    }
-}
-
-/// Parses the word and the index of a mode with a recursive index, for a number of levels. Returns `None` if they are
-/// no such mode.
-fn parse_recursive(levels: Levels, word: &str, number: &str) -> Option<Mode> {
-    if word == recursive_word(levels) {
-        Some(Mode::Recursive(levels, parse_index(number)?))
-    } else if word == pair_word(levels) {
-        Some(Mode::Pair(levels, parse_index(number)?))
+        Some(Mode::Offset(VirtAddr::checked_new(number)?))
+    } else if word == "recursive" {
+        Some(Mode::Recursive(Levels::Four, index_at(number)?))
+    } else if word == "recursive5" {
+        Some(Mode::Recursive(Levels::Five, index_at(number)?))
+    } else if word == "pair" {
+        Some(Mode::Pair(Levels::Four, index_at(number)?))
+    } else if word == "pair5" {
+        Some(Mode::Pair(Levels::Five, index_at(number)?))
     } else {
         None
     }
@@ -112,24 +94,9 @@ fn parse_recursive(levels: Levels, word: &str, number: &str) -> Option<Mode> {
 
 /// Parses a number of places, from 2 to 65536. Returns `None` if the text is no such number.
 fn parse_places(text: &str) -> Option<u64> {
-    let places = parse_number(text)?;
+    let places = read_number(text)?;
     if (2..=65536).contains(&places) {
         Some(places)
-    } else {
-        None
-    }
-}
-
-/// Parses an address from its raw value. Returns `None` if the text is no canonical address.
-fn parse_address(text: &str) -> Option<VirtAddr> {
-    VirtAddr::try_new(parse_number(text)?).ok()
-}
-
-/// Parses an index of a table. Returns `None` if the text is no index.
-fn parse_index(text: &str) -> Option<PageTableIndex> {
-    let index = parse_number(text)?;
-    if index < 512 {
-        Some(PageTableIndex::new(index as u16))
     } else {
         None
     }

@@ -191,7 +191,7 @@ impl<'a> Rest<'a> {
     fn read_numbers(&mut self, numbers: &mut [u64; MOST_NUMBERS]) -> Option<usize> {
         for (count, number) in numbers.iter_mut().enumerate() {
             match self.next_field() {
-                Some(field) => *number = parse_number(field)?,
+                Some(field) => *number = read_number(field)?,
                 None => return Some(count),
             }
         }
@@ -200,4 +200,9 @@ impl<'a> Rest<'a> {
             None => Some(MOST_NUMBERS),
         }
     }
+}
+
+/// Parses a number, as [`parse_number`] does.
+pub fn read_number(text: &str) -> Option<u64> {
+    parse_number(text)
 }

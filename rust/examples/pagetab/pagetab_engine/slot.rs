@@ -18,15 +18,6 @@ impl Slot {
         Slot { place: FramePlace::new(number), index }
     }
 
-    /// Returns the slot of [`at`](Self::at) for an index given as a number, or `None` if it isn't below 512.
-    pub fn new(frame: PhysFrame<Size4KiB>, index: u64) -> Option<Slot> {
-        if index < 512 {
-            Some(Slot::at(frame, PageTableIndex::new(index as u16)))
-        } else {
-            None
-        }
-    }
-
     /// Returns the word, or 0 if the memory lacks the table.
     pub fn word(self, memory: &PhysMemory) -> u64 {
         match memory.table(self.place) {
@@ -60,5 +51,15 @@ pub fn frame_at(start: u64, places: u64) -> Option<PhysFrame<Size4KiB>> {
 ///
 /// Returns `None` if and only if [`frame_at`] does, or `index` isn't below 512.
 pub fn slot_at(start: u64, index: u64, places: u64) -> Option<Slot> {
-    Slot::new(frame_at(start, places)?, index)
+    let frame = frame_at(start, places)?;
+    Some(Slot::at(frame, index_at(index)?))
+}
+
+/// Returns a number as an index of a table, or `None` if it isn't below 512.
+pub fn index_at(number: u64) -> Option<PageTableIndex> {
+    if number < 512 {
+        Some(PageTableIndex::new(number as u16))
+    } else {
+        None
+    }
 }

@@ -1,8 +1,10 @@
 //! The search for the next page of a range. It passes over what a missing table spans by one look.
 
+use super::RangeEnd;
 use crate::addresses::level_count::LevelCount;
 use crate::pages::frame::PhysFrame;
-use crate::pages::page::Size4KiB;
+use crate::pages::page::{PageIn, Size4KiB};
+use crate::pages::range::Block;
 use crate::tables::page_table::{has_flag, PageTableEntry, PageTableFlags};
 use crate::tables::phys_memory::{index_of, table_in, PageTableFrameMapping, TableMemory};
 
@@ -42,12 +44,6 @@ impl Cursor {
     /// Returns the cursor at a position, before any table but the root.
     pub(super) fn at_root<L: LevelCount>(position: u64, root: PhysFrame<Size4KiB>) -> Cursor {
         Cursor { position, frame: root, level: L::LEVELS }
-    }
-
-    /// Returns a copy.
-    #[inline]
-    fn copied(&self) -> Cursor {
-        Cursor { position: self.position, frame: self.frame, level: self.level }
     }
 
     /// Returns the word that the cursor's table has for its position, or 0 if its frame has no table.
@@ -123,42 +119,32 @@ impl Spot {
     }
 }
 
-/// What a search finds.
-#[derive(Clone, Copy)]
-pub(super) enum Found {
-    /// No page.
-    All,
-    /// A page that is in the range.
-    Page(Spot),
-    /// A larger page that is only partly in the range.
-    LargerPage(Spot),
-}
-
 /// Looks down from a cursor's table to the entry that names no table.
 fn look_down<T: TableMemory, P: PageTableFrameMapping>(memory: &T, mapping: &P, levels: u64, from: &Cursor) -> Spot {
     let mut spot = Spot::read(memory, mapping, from);
-    'down: while let Some(below) = spot.below() {
+    while let Some(below) = spot.below() {
         spot = Spot::read(memory, mapping, &below);
     }
     spot
 }
 
-/// Searches for the first wanted page from a cursor on, up to but excluding the position `end`.
+/// Returns the first wanted page from a cursor on, up to but excluding the position `end`, or why there is none: it is a larger one that
+/// lies only partly before `end` or from the cursor on, or there is no page at all.
 pub(super) fn next_page<L: LevelCount, T: TableMemory, P: PageTableFrameMapping>(
     memory: &T,
     mapping: &P,
     root: PhysFrame<Size4KiB>,
     end: u64,
     wanted: Wanted,
-    from: &Cursor,
-) -> Found {
-    let mut cursor = from.copied();
-    'holes: while cursor.position < end {
+    from: Cursor,
+) -> Result<Spot, RangeEnd<L>> {
+    let mut cursor = from;
+    while cursor.position < end {
         let spot = look_down(memory, mapping, L::LEVELS, &cursor);
         if spot.is_page(wanted) {
-            return if spot.is_whole(end) { Found::Page(spot) } else { Found::LargerPage(spot) };
+            return if spot.is_whole(end) { Ok(spot) } else { Err(RangeEnd::LargerPage(PageIn::at(spot.position))) };
         }
         cursor = spot.past::<L>(root);
     }
-    Found::All
+    Err(RangeEnd::All)
 }
