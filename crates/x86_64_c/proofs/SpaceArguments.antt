@@ -1,8 +1,8 @@
 -- What is wrong with the arguments of calls on several address spaces, and what these leave if something is.
-use Rattle.std.proofs.Common.{◌≡◌, inl, inr, ◌≤◌, ◌↔◌, ℕ, ◌==◌, ◌||◌, ◌&&◌, nat_le, Bool, true, false, List, length, Some, None, IsTrue, Option, refl, sym, ap, ap₂, subst₂, ◌∙◌, le-leb, arith}
+use Rattle.std.proofs.Common.{◌≡◌, inl, inr, ◌≤◌, ◌↔◌, ℕ, ◌==◌, ◌||◌, ◌&&◌, nat_le, nat_lt, Bool, true, false, List, length, Some, None, IsTrue, Option, refl, sym, subst, subst₂, ◌∙◌, arith}
 use Rattle.std.specs.Option.{option_or}
 use Rattle.std.proofs.lemmas.Bool.{leb-true}
-use Rattle.x86_64_c.specs.AddressSpaces.{wrong_indices, wrong_spaces_test, bad_new, bad_gone, MakesSpace, GivesUpSpace}
+use Rattle.x86_64_c.specs.AddressSpaces.{wrong_indices, wrong_gone, bad_new, bad_gone, MakesSpace, GivesUpSpace}
 use Rattle.x86_64_c.specs.Arguments.{bad_hierarchy, unless}
 use Rattle.x86_64_c.specs.PoolCalls.{Loan, bad_pool, loan}
 use Rattle.x86_64_c.specs.Status as status
@@ -37,6 +37,13 @@ within free capacity other none = leb-true free capacity (unless_none (nat_le fr
 
 pub within_new : (h : Hierarchy) (lent : Loan) (from to : ℕ) → bad_new h lent from to ≡ None → lent.free ≤ length lent.array
 within_new h lent from to none = within lent.free (length lent.array) (wrong_indices from to) (none_both (bad_hierarchy h (length lent.tables)) _ none).1
+
+-- and a space that is given up has no root in frame 0
+pub root_not_zero : (h : Hierarchy) (lent : Loan) (from to : ℕ) → bad_gone h lent from to ≡ None → h.root ≡ 0 → ⊥
+root_not_zero h lent from to none zero =
+    let right = (none_both (bad_hierarchy h (length lent.tables)) (wrong_gone h.root lent.free (length lent.array) from to) none).1 in
+    let above = unless_none (nat_lt 0 h.root) status.bad_root (none_both (unless (nat_lt 0 h.root) status.bad_root) (bad_pool lent.free (length lent.array) (wrong_indices from to)) right).0 in
+    let e : false ≡ true = subst (λ root. nat_lt 0 root ≡ true) zero above in cc
 
 -- ---- calls that are refused for an argument
 

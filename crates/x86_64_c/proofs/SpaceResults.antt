@@ -4,7 +4,7 @@ use Rattle.std.specs.Prelude.{slice_get}
 use Rattle.x86_64_model.specs.Lists.{In}
 use Rattle.x86_64_model.specs.Store.{StoreFits}
 use Rattle.x86_64_spaces.specs.declared.giving_up.GiveUpError.{GiveUpError}
-use Rattle.x86_64_spaces.specs.declared.giving_up.GiveUpError.TheVariants.{EntryUsed}
+use Rattle.x86_64_spaces.specs.declared.giving_up.GiveUpError.TheVariants.{EntryUsed, FrameZero}
 use Rattle.x86_64_spaces.specs.SpaceCalls.{TakesFirst, IsMade, IsGivenUp, IsReason}
 use Rattle.x86_64_spaces.specs.SpaceLayouts.{HasSharedAlone}
 use Rattle.x86_64_tables.specs.LentMemory.{numbered}
@@ -18,7 +18,7 @@ use Rattle.x86_64_c.specs.declared.arguments.Hierarchy.{Hierarchy as Given}
 use Rattle.x86_64_c.specs.private.Pools.{Leaves}
 use Rattle.x86_64_c.specs.private.Spaces.{MakesRoot}
 use Rattle.x86_64_c.proofs.ArgumentsGiven.{kept}
-use Rattle.x86_64_c.proofs.SpaceArguments.{within_new}
+use Rattle.x86_64_c.proofs.SpaceArguments.{root_not_zero, within_new}
 
 -- ---- the top of a stack
 
@@ -62,7 +62,6 @@ module _ (own : List ℕ) (h : Given) (lent after : Loan) (few : length own ≤ 
     room = long;
     in_array = λ _. made.in_array;
   }
-
   -- ---- a space that is given up
 
 -- ---- nothing changed
@@ -79,6 +78,11 @@ module _ (own : List ℕ) (h : Given) (ts us : List (List ℕ)) (array left : Li
     room = refl;
     in_array = λ within. within;
   })
+
+  pub is_zero : bad_gone h (loan ts array free) from to ≡ None → (why : GiveUpError) → why ≡ FrameZero → IsReason (shared_in from to) (hierarchy_in h ts) why → ⊥
+  is_zero good why is reason =
+      let zero : HasSharedAlone (shared_in from to) (layout_given h) (numbered ts) × (h.root ≡ 0) = subst (IsReason (shared_in from to) (hierarchy_in h ts)) is reason in
+      root_not_zero h (loan ts array free) from to good zero.1
 
   pub is_in_use : bad_gone h (loan ts array free) from to ≡ None → (why : GiveUpError) → why ≡ EntryUsed → IsReason (shared_in from to) (hierarchy_in h ts) why
       → GivesUpSpace own h (loan ts array free) from to status.space_in_use (loan us left count)

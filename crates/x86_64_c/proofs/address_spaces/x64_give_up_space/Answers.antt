@@ -1,5 +1,5 @@
 use Rattle.x86_64_c.proofs.SpaceArguments.{refused_gone}
-use Rattle.x86_64_c.proofs.SpaceResults.{is_in_use}
+use Rattle.x86_64_c.proofs.SpaceResults.{is_in_use, is_zero}
 use Rattle.x86_64_c.proofs.address_spaces.x64_give_up_space.Goals as goal
 
 pub returns-in-Err : goal.returns-in-Err
@@ -13,3 +13,10 @@ returns-in-Err-EntryUsed g c =
     let kept = rw c.in-Err-EntryUsed.is at c.in-Ok.ensures.does in
     is_in_use g.own h c.args.tables.now c.enter.new.tables c.args.pool.now c.enter.new.array c.args.free_count.now c.in-Ok.given_up.free_count from to kept.1 kept.2 kept.3 c.in-Ok.ensures.good
     c.in-Err-EntryUsed.field-0 (rw c.in-Err-EntryUsed.is at c.in-Err-EntryUsed.field-0-is) kept.0
+
+pub returns-in-Err-FrameZero : goal.returns-in-Err-FrameZero
+returns-in-Err-FrameZero g c =
+    let h = c.args.hierarchy.now in let from = c.args.shared_from in let to = c.args.shared_to in
+    let kept = rw c.in-Err-FrameZero.is at c.in-Ok.ensures.does in
+    absurd (is_zero g.own h c.args.tables.now c.enter.new.tables c.args.pool.now c.enter.new.array c.args.free_count.now c.in-Ok.given_up.free_count from to kept.1 kept.2 kept.3 c.in-Ok.ensures.good
+    c.in-Err-FrameZero.field-0 (rw c.in-Err-FrameZero.is at c.in-Err-FrameZero.field-0-is) kept.0)
