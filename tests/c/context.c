@@ -310,13 +310,13 @@ static void try_names(void) {
         const char *name = x64_status_name(status);
         bool is_known = strncmp(name, "X64_", 4) == 0;
         count += is_known;
-        if (is_known != (status <= X64_BAD_INDICES))
+        if (is_known != (status <= X64_BAD_SEGMENTS))
             failed++;
         for (uint32_t other = 0; other < status && is_known; other++)
             if (strcmp(name, x64_status_name(other)) == 0)
                 failed++;
     }
-    if (count != 24 || strcmp(x64_status_name(X64_SHARED_ENTRY), "X64_SHARED_ENTRY") != 0 || strcmp(x64_status_name(X64_NO_TABLE), "X64_NO_TABLE") != 0)
+    if (count != 25 || strcmp(x64_status_name(X64_SHARED_ENTRY), "X64_SHARED_ENTRY") != 0 || strcmp(x64_status_name(X64_NO_TABLE), "X64_NO_TABLE") != 0)
         failed++;
 }
 
