@@ -66,7 +66,7 @@
  * all calls return X64_BAD_SEGMENTS; each call compares any two, so have few. A frame of the first
  * segment is found at once, others by binary search. The segments must stay as they are during a
  * call, and which table a frame has must never change. Without segments (segment_count is 0)
- * `first` counts, and calls take as long as if there were none.
+ * `first` counts, and no segment is looked at.
  *
  * All addresses, sizes and offsets are in bytes. Virtual addresses must be canonical: with four
  * levels bits 48 to 63 are copies of bit 47, with five levels bits 57 to 63 are copies of bit 56.
