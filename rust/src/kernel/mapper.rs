@@ -251,16 +251,6 @@ pub trait CleanUp<L: LevelCount = FourLevels> {
     unsafe fn clean_up_addr_range<D>(&mut self, range: BlockRangeInclusive<PageIn<Size4KiB, L>>, frame_deallocator: &mut D)
     where
         D: FrameDeallocator<Size4KiB>;
-
-    /// Removes the empty tables of a range of pages, but keeps each table that an entry of the root names: other roots may name it, too.
-    ///
-    /// # Safety
-    ///
-    /// The caller promises what [`clean_up_addr_range`](Self::clean_up_addr_range) asks for, of the tables that no entry of the root
-    /// names: other roots may lead to these through the entries that they share. Then each processor that uses one of the roots flushes.
-    unsafe fn clean_up_below_root<D>(&mut self, range: BlockRangeInclusive<PageIn<Size4KiB, L>>, frame_deallocator: &mut D)
-    where
-        D: FrameDeallocator<Size4KiB>;
 }
 
 /// Passes the frames of unmapped pages on.
@@ -408,15 +398,6 @@ macro_rules! forward_calls {
                 frame_deallocator: &mut D,
             ) {
                 calls::clean_up_range(&mut self.$tables, range, &mut Removed(frame_deallocator));
-                $moved
-            }
-
-            unsafe fn clean_up_below_root<D: FrameDeallocator<Size4KiB>>(
-                &mut self,
-                range: BlockRangeInclusive<PageIn<Size4KiB, $L>>,
-                frame_deallocator: &mut D,
-            ) {
-                calls::clean_up_below_root(&mut self.$tables, range, &mut Removed(frame_deallocator));
                 $moved
             }
         }
