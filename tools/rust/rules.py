@@ -66,7 +66,8 @@ REWRITES = Rules(
         r"It must be consumed by (.*) or (.*)\. Dropping it is a compile error\.": (
             r"It is consumed by \1, \2, or a flush by the feature `instructions`. The compiler warns if it isn't used."
         ),
-        r"\[`(\w+)`\]\(crate::laws::\w+\)": r"`\1`",
+        # laws aren't in the crate
+        r"\[`(\w+)`\]\((?:crate::laws|x86_64_model::laws::\w+)::\w+\)": r"`\1`",
         r"(?:fmt::)?Formatter<W>": "core::fmt::Formatter<'_>",
         r"\bFmtResult\b|(?<!core::)\bfmt::Result\b": "core::fmt::Result",
         r"::<S, W>": "::<S>",

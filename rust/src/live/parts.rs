@@ -70,7 +70,7 @@ pub fn may_split(level: u64, word: u64) -> Result<(), SplitError> {
 /// Writes the words of the parts of a page into a table, by the word of the page's entry, with all its flags, its marks and its PAT bit.
 ///
 /// Below an entry that takes no right from them these parts map what the page maps, with the same rights. So the page may be split into
-/// them ([`pages_may_be_split`](x86_64_model::laws::splits::pages_may_be_split)).
+/// them (`pages_may_be_split`).
 ///
 /// # Errors
 ///
@@ -131,7 +131,7 @@ fn pat_as(bit: u64, word: u64) -> u64 {
 /// Returns true if the words of a table map the parts of a page that has this word, below an entry which names the table: the same
 /// frames as the same kind of memory (caching, protection key, `GLOBAL`, `PRESENT`), with the same rights.
 ///
-/// Then the parts may be joined to the page ([`pages_may_be_joined`](x86_64_model::laws::splits::pages_may_be_joined)). Marks (`ACCESSED`
+/// Then the parts may be joined to the page (`pages_may_be_joined`). Marks (`ACCESSED`
 /// and `DIRTY`) and the bits that no processor reads aren't looked at. Returns false if [`may_split`] refuses the page.
 ///
 /// # Proved
