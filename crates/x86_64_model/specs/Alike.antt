@@ -26,13 +26,13 @@ Alike L m n = (q : List ℕ) → (entry m q ≡ entry n q) ⊎ ((length q < L) �
 -- Whether a call names a page or an address in the recursive window. An identity map does so only if its frame lies below the
 -- middle of the address space, and a clean up never does.
 abbrev pub names_index : (L : ℕ) → Option Window → Call → Bool
-names_index L window (MapTo q frame given) = begins_with window q
-names_index L window (MapToWithTableFlags q frame given parent_flags) = begins_with window q
+names_index L window (MapTo level page frame given) = begins_with window (path_at L level page)
+names_index L window (MapToWithTableFlags level page frame given parent_flags) = begins_with window (path_at L level page)
 names_index L window (IdentityMap level frame given) = nat_lt frame (lower_half L) && begins_with window (path_at L level frame)
-names_index L window (Unmap q) = begins_with window q
-names_index L window (UpdateFlags q given) = begins_with window q
-names_index L window (SetFlags level q given) = begins_with window q
-names_index L window (TranslatePage q) = begins_with window q
+names_index L window (Unmap level page) = begins_with window (path_at L level page)
+names_index L window (UpdateFlags level page given) = begins_with window (path_at L level page)
+names_index L window (SetFlags at level page given) = begins_with window (path_at L level page)
+names_index L window (TranslatePage level page) = begins_with window (path_at L level page)
 names_index L window (Translate p) = begins_with window (page_path L p)
 names_index L window (TranslateAddress p) = begins_with window (page_path L p)
 names_index L window (CleanUp low high) = false

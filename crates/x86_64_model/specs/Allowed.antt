@@ -30,8 +30,8 @@ map_allowed L window paths q given parent_flags =
 -- Whether a call that maps a page is allowed on the path map of a hierarchy with L levels, and a recursive window if there is one.
 -- False for any other call.
 abbrev pub map_call_allowed : (L : ℕ) → Option Window → PathMap → Call → Bool
-map_call_allowed L window paths (MapTo q frame given) = map_allowed L window paths q given (parent_part given)
-map_call_allowed L window paths (MapToWithTableFlags q frame given parent_flags) = map_allowed L window paths q given parent_flags
+map_call_allowed L window paths (MapTo level page frame given) = map_allowed L window paths (path_at L level page) given (parent_part given)
+map_call_allowed L window paths (MapToWithTableFlags level page frame given parent_flags) = map_allowed L window paths (path_at L level page) given parent_flags
 map_call_allowed L window paths (IdentityMap level frame given) = nat_lt frame (lower_half L) && map_allowed L window paths (path_at L level frame) given (parent_part given)
 map_call_allowed L window paths call = false
 
@@ -53,10 +53,10 @@ set_flags_allowed L E paths level page given = cond (nat_lt 3 level) (not (huge 
 -- Whether a call is allowed on the path map of a hierarchy with L levels, and a recursive window if there is one. A call that isn't
 -- allowed gets the reply `NotAllowed` and changes nothing.
 abbrev pub allowed : (L : ℕ) → Option Window → PathMap → Call → Bool
-allowed L window paths (Unmap q) = not (begins_with window q)
-allowed L window paths (UpdateFlags q given) = no_address given && not (begins_with window q)
-allowed L window paths (SetFlags level q given) = no_address given && not (begins_with window q) && set_flags_allowed L (entry_at window paths) paths level q given
-allowed L window paths (TranslatePage q) = true
+allowed L window paths (Unmap level page) = not (begins_with window (path_at L level page))
+allowed L window paths (UpdateFlags level page given) = no_address given && not (begins_with window (path_at L level page))
+allowed L window paths (SetFlags at level page given) = no_address given && not (begins_with window (path_at L level page)) && set_flags_allowed L (entry_at window paths) paths at (path_at L level page) given
+allowed L window paths (TranslatePage level page) = true
 allowed L window paths (Translate p) = true
 allowed L window paths (TranslateAddress p) = true
 allowed L window paths (CleanUp low high) = true

@@ -28,13 +28,13 @@ if_done Cleaned item = []
 
 -- The items that are recorded for a call with this reply, in a hierarchy of L levels, so that they can be flushed.
 abbrev pub items_of : (L : ℕ) → Call → Reply → List Item
-items_of L (MapTo q frame given) reply = if_done reply (OnePage q)
-items_of L (MapToWithTableFlags q frame given parent_flags) reply = if_done reply (OnePage q)
+items_of L (MapTo level page frame given) reply = if_done reply (OnePage (path_at L level page))
+items_of L (MapToWithTableFlags level page frame given parent_flags) reply = if_done reply (OnePage (path_at L level page))
 items_of L (IdentityMap level frame given) reply = if_done reply (OnePage (path_at L level frame))
-items_of L (Unmap q) reply = if_done reply (OnePage q)
-items_of L (UpdateFlags q given) reply = if_done reply (OnePage q)
-items_of L (SetFlags level q given) reply = if_done reply Everything
-items_of L (TranslatePage q) reply = []
+items_of L (Unmap level page) reply = if_done reply (OnePage (path_at L level page))
+items_of L (UpdateFlags level page given) reply = if_done reply (OnePage (path_at L level page))
+items_of L (SetFlags at level page given) reply = if_done reply Everything
+items_of L (TranslatePage level page) reply = []
 items_of L (Translate p) reply = []
 items_of L (TranslateAddress p) reply = []
 items_of L (CleanUp low high) reply = []

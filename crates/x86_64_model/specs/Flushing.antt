@@ -61,13 +61,13 @@ below_due window q = BelowDue q ∷ if_window window
 -- them if its parent flags have NO_EXECUTE, even if it is refused: they are below the page's first index. A clean up removes tables
 -- that caches may name, and frees their frames.
 abbrev pub flush_after : (L : ℕ) → Option Window → (freed : List ℕ) → Call → Reply → List Due
-flush_after L window freed (MapTo q frame given) reply = []
-flush_after L window freed (MapToWithTableFlags q frame given parent_flags) reply = if_allowed reply (cond (no_execute parent_flags) (below_due window (take 1 q)) [])
+flush_after L window freed (MapTo level page frame given) reply = []
+flush_after L window freed (MapToWithTableFlags level page frame given parent_flags) reply = if_allowed reply (cond (no_execute parent_flags) (below_due window (take 1 (path_at L level page))) [])
 flush_after L window freed (IdentityMap level frame given) reply = []
-flush_after L window freed (Unmap q) reply = if_accepted reply (λ frame. page_due L window q frame)
-flush_after L window freed (UpdateFlags q given) reply = if_accepted reply (λ frame. page_due L window q frame)
-flush_after L window freed (SetFlags level q given) reply = if_accepted reply (λ frame. below_due window (front_at L level q))
-flush_after L window freed (TranslatePage q) reply = []
+flush_after L window freed (Unmap level page) reply = if_accepted reply (λ frame. page_due L window (path_at L level page) frame)
+flush_after L window freed (UpdateFlags level page given) reply = if_accepted reply (λ frame. page_due L window (path_at L level page) frame)
+flush_after L window freed (SetFlags at level page given) reply = if_accepted reply (λ frame. below_due window (front_at L at (path_at L level page)))
+flush_after L window freed (TranslatePage level page) reply = []
 flush_after L window freed (Translate p) reply = []
 flush_after L window freed (TranslateAddress p) reply = []
 flush_after L window freed (CleanUp low high) reply = TablesDue freed ∷ if_window window
@@ -226,8 +226,8 @@ pub record LosesNothing (e f : ℕ) : Type 0 where
 
 -- The page that a call maps, if it is a map.
 abbrev pub mapped_by : (L : ℕ) → Call → Option (List ℕ)
-mapped_by L (MapTo q frame given) = Some q
-mapped_by L (MapToWithTableFlags q frame given parent_flags) = Some q
+mapped_by L (MapTo level page frame given) = Some (path_at L level page)
+mapped_by L (MapToWithTableFlags level page frame given parent_flags) = Some (path_at L level page)
 mapped_by L (IdentityMap level frame given) = Some (path_at L level frame)
 mapped_by L call = None
 

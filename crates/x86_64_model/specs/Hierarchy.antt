@@ -120,16 +120,16 @@ pub record MayMap {Lent : Type 0} (h : Hierarchy Lent) (supply : List ℕ) (call
 -- The outcome of a call that maps a page, by the rule of maps: the path map, the rest of the supply (the frames to hand out, in order),
 -- and the answer. None for any other call.
 abbrev pub map_outcome : (L added_flags : ℕ) → PathMap → (supply : List ℕ) → Call → Option AfterMap
-map_outcome L added paths supply (MapTo q frame given) = Some (map_call L paths supply (parent_part given) added q frame given)
-map_outcome L added paths supply (MapToWithTableFlags q frame given more) = Some (map_call L paths supply more added q frame given)
+map_outcome L added paths supply (MapTo level page frame given) = Some (map_call L paths supply (parent_part given) added (path_at L level page) frame given)
+map_outcome L added paths supply (MapToWithTableFlags level page frame given more) = Some (map_call L paths supply more added (path_at L level page) frame given)
 map_outcome L added paths supply (IdentityMap level frame given) = Some (map_call L paths supply (parent_part given) added (path_at L level frame) frame given)
 map_outcome L added paths supply call = None
 
 -- The outcome of a call that changes one entry, by its rule: the path map and the answer. None for any other call.
 abbrev pub change_outcome : (L : ℕ) → Option Window → PathMap → Call → Option AfterChange
-change_outcome L window paths (Unmap q) = Some (unmap L (entry_at window paths) paths q)
-change_outcome L window paths (UpdateFlags q given) = Some (update_flags L (entry_at window paths) paths q given)
-change_outcome L window paths (SetFlags level q given) = Some (set_flags L (entry_at window paths) paths level q given)
+change_outcome L window paths (Unmap level page) = Some (unmap L (entry_at window paths) paths (path_at L level page))
+change_outcome L window paths (UpdateFlags level page given) = Some (update_flags L (entry_at window paths) paths (path_at L level page) given)
+change_outcome L window paths (SetFlags at level page given) = Some (set_flags L (entry_at window paths) paths at (path_at L level page) given)
 change_outcome L window paths call = None
 
 -- The machine of a layout, with a pool that puts a returned frame where `take_back` says.
@@ -150,10 +150,11 @@ abbrev pub Steps : {Lent : Type 0} → (h : Hierarchy Lent) → (pool : List ℕ
 Steps h pool call answer after rest =
     (take_back : List ℕ → ℕ → List ℕ) → do_call (machine_of h.layout take_back) (state_of h pool) call ≡ record { state = state_of after rest; reply = Answered answer }
 
--- The effect of a call that changes one entry. Its outcome is that of the call's rule, the hierarchy is valid again, and a supply
--- that fitted still fits. Only words in the root and the tables change, and a refused call changes none.
-pub record Does {Lent : Type 0} (h : Hierarchy Lent) (call : Call) (answer : Answer) (after : Hierarchy Lent) : Type 0 where
-  pub outcome : change_outcome h.layout.levels h.layout.window (paths h) call ≡ Some (record { paths = paths after; answer = answer })
+-- The effect of a change of one entry, whose outcome by its rule is given (None if no rule has one). The path map and the answer are
+-- those of the outcome, the hierarchy is valid again, and a supply that fitted still fits. Only words in the root and the tables
+-- change, and a refused change changes none.
+pub record Changes {Lent : Type 0} (h : Hierarchy Lent) (rule : Option AfterChange) (answer : Answer) (after : Hierarchy Lent) : Type 0 where
+  pub outcome : rule ≡ Some (record { paths = paths after; answer = answer })
   pub valid : Valid after
   pub fits : (supply : List ℕ) → SupplyFits h supply → SupplyFits after supply
   pub others : KeepsOthers (IsTable h.layout.levels h.layout.root (paths h)) h after
@@ -161,21 +162,31 @@ pub record Does {Lent : Type 0} (h : Hierarchy Lent) (call : Call) (answer : Ans
   pub layout : after.layout ≡ h.layout
   pub lent : after.lent ≡ h.lent
 
--- The effect of a map, after which the rest of the supply is left. Its outcome is that of the rule of maps, the rest fits the
--- hierarchy, and only words in the root, the tables and the taken frames change. Each page walk that arrived still arrives at the same address,
--- loses no right, and gains only rights that the parent flags grant.
-pub record DoesMap {Lent : Type 0} (h : Hierarchy Lent) (supply : List ℕ) (call : Call) (answer : Answer) (after : Hierarchy Lent) (rest : List ℕ) : Type 0 where
-  pub outcome : map_outcome h.layout.levels h.layout.added_flags (paths h) supply call ≡ Some (record { paths = paths after; supply = rest; answer = answer })
+-- The effect of a call that changes one entry: that of its rule.
+abbrev pub Does : {Lent : Type 0} → (h : Hierarchy Lent) → Call → Answer → (after : Hierarchy Lent) → Type 0
+Does h call answer after = Changes h (change_outcome h.layout.levels h.layout.window (paths h) call) answer after
+
+-- The effect of a map, whose outcome by its rule and whose parent flags are given, after which the rest of the supply is left. The
+-- path map, the rest and the answer are those of the outcome, the rest fits the hierarchy, and only words in the root, the tables
+-- and the taken frames change. Each page walk that arrived still arrives at the same address, loses no right, and gains only rights
+-- that the parent flags grant.
+pub record Maps {Lent : Type 0} (h : Hierarchy Lent) (supply : List ℕ) (rule : Option AfterMap) (parent_flags : Option ℕ) (answer : Answer) (after : Hierarchy Lent) (rest : List ℕ) : Type 0 where
+  pub outcome : rule ≡ Some (record { paths = paths after; supply = rest; answer = answer })
   pub fits : SupplyFits after rest
   pub others : KeepsOthers (λ f. Owns h supply f × (In rest f → ⊥)) h after
-  pub walks : (more : ℕ) → parent_flags_of call ≡ Some more → (p : ℕ) → Arrives more (walk h p) (walk after p)
+  pub walks : (more : ℕ) → parent_flags ≡ Some more → (p : ℕ) → Arrives more (walk h p) (walk after p)
   pub layout : after.layout ≡ h.layout
   pub lent : after.lent ≡ h.lent
 
+-- The effect of a call that maps a page, after which the rest of the supply is left: that of the rule of maps.
+abbrev pub DoesMap : {Lent : Type 0} → (h : Hierarchy Lent) → (supply : List ℕ) → Call → Answer → (after : Hierarchy Lent) → (rest : List ℕ) → Type 0
+DoesMap h supply call answer after rest =
+    Maps h supply (map_outcome h.layout.levels h.layout.added_flags (paths h) supply call) (parent_flags_of call) answer after rest
+
 -- The frame that is named by the entry whose flags the call changes, 0 for a call that changes no flags.
 abbrev pub named : {Lent : Type 0} → Hierarchy Lent → Call → ℕ
-named h (UpdateFlags q given) = address (read_entry h q)
-named h (SetFlags level q given) = address (read_entry h (front_at h.layout.levels level q))
+named h (UpdateFlags level page given) = address (read_entry h (path_of h level page))
+named h (SetFlags at level page given) = address (read_entry h (front_at h.layout.levels at (path_of h level page)))
 named h call = 0
 
 -- The page walk at each offset of the page of this size (in bytes) that starts at a position arrives at the frame's start plus the

@@ -33,7 +33,6 @@ pub mod Layout
 pub mod Hierarchy
 pub mod Conserved
 pub mod Store
-pub mod PageCalls
 pub mod Spaces
 pub mod Tags
 pub mod Switches

@@ -54,13 +54,13 @@ after_clean_up take_back pool a = record { state = record { paths = a.paths; poo
 
 -- The result of an allowed call on a state of the machine: the state after it, and its reply.
 unfoldable pub do_call : Machine → State → Call → AfterCall
-do_call m s (MapTo q frame given) = after_map (map_call m.levels s.paths s.pool (parent_part given) m.added_flags q frame given)
-do_call m s (MapToWithTableFlags q frame given parent_flags) = after_map (map_call m.levels s.paths s.pool parent_flags m.added_flags q frame given)
+do_call m s (MapTo level page frame given) = after_map (map_call m.levels s.paths s.pool (parent_part given) m.added_flags (path_at m.levels level page) frame given)
+do_call m s (MapToWithTableFlags level page frame given parent_flags) = after_map (map_call m.levels s.paths s.pool parent_flags m.added_flags (path_at m.levels level page) frame given)
 do_call m s (IdentityMap level frame given) = after_map (map_call m.levels s.paths s.pool (parent_part given) m.added_flags (path_at m.levels level frame) frame given)
-do_call m s (Unmap q) = after_change s.pool (unmap m.levels (entry_at m.window s.paths) s.paths q)
-do_call m s (UpdateFlags q given) = after_change s.pool (update_flags m.levels (entry_at m.window s.paths) s.paths q given)
-do_call m s (SetFlags level q given) = after_change s.pool (set_flags m.levels (entry_at m.window s.paths) s.paths level q given)
-do_call m s (TranslatePage q) = only_reply s (Answered (translate_page m.levels (entry_at m.window s.paths) q))
+do_call m s (Unmap level page) = after_change s.pool (unmap m.levels (entry_at m.window s.paths) s.paths (path_at m.levels level page))
+do_call m s (UpdateFlags level page given) = after_change s.pool (update_flags m.levels (entry_at m.window s.paths) s.paths (path_at m.levels level page) given)
+do_call m s (SetFlags at level page given) = after_change s.pool (set_flags m.levels (entry_at m.window s.paths) s.paths at (path_at m.levels level page) given)
+do_call m s (TranslatePage level page) = only_reply s (Answered (translate_page m.levels (entry_at m.window s.paths) (path_at m.levels level page)))
 do_call m s (Translate p) = only_reply s (Position (translate m.levels (entry_at m.window s.paths) p))
 do_call m s (TranslateAddress p) = only_reply s (Address (address_of (translate m.levels (entry_at m.window s.paths) p)))
 do_call m s (CleanUp low high) = after_clean_up m.take_back s.pool (clean_up m.levels s.paths low high)

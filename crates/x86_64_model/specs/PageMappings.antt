@@ -20,13 +20,13 @@ pub record PageMapping : Type 0 where
 abbrev pub entry_path : (L : ℕ) → PageMapping → List ℕ
 entry_path L x = path_at L x.level x.page
 
--- The call of `map_to` that maps the page, with L levels.
-abbrev pub map_call_of : (L : ℕ) → PageMapping → Call
-map_call_of L x = MapTo (entry_path L x) x.frame x.flags
+-- The call of `map_to` that maps the page.
+abbrev pub map_call_of : PageMapping → Call
+map_call_of x = MapTo x.level x.page x.frame x.flags
 
 -- The calls of `map_to` that map these pages, one call for each page, in order.
-abbrev pub map_calls : (L : ℕ) → List PageMapping → List Call
-map_calls L xs = map (λ x. map_call_of L x) xs
+abbrev pub map_calls : List PageMapping → List Call
+map_calls xs = map map_call_of xs
 
 -- The reply to the page's `map_to` if it is accepted: done, with the page's frame.
 abbrev pub accepted : PageMapping → Reply

@@ -53,13 +53,13 @@ pub record ArePaired (sharing : (root other : ℕ) → ℕ → Bool) (m : Memory
 -- The call changes nothing below a shared index: the path of its page begins with none, and no span of one overlaps the range
 -- of a clean up.
 abbrev pub Avoids : (L : ℕ) (shared : ℕ → Bool) → Call → Type 0
-Avoids L shared (MapTo q frame given) = is_shared shared q ≡ false
-Avoids L shared (MapToWithTableFlags q frame given parent_flags) = is_shared shared q ≡ false
+Avoids L shared (MapTo level page frame given) = is_shared shared (path_at L level page) ≡ false
+Avoids L shared (MapToWithTableFlags level page frame given parent_flags) = is_shared shared (path_at L level page) ≡ false
 Avoids L shared (IdentityMap level frame given) = is_shared shared (path_at L level frame) ≡ false
-Avoids L shared (Unmap q) = is_shared shared q ≡ false
-Avoids L shared (UpdateFlags q given) = is_shared shared q ≡ false
-Avoids L shared (SetFlags level q given) = is_shared shared q ≡ false
-Avoids L shared (TranslatePage q) = Unit {0}
+Avoids L shared (Unmap level page) = is_shared shared (path_at L level page) ≡ false
+Avoids L shared (UpdateFlags level page given) = is_shared shared (path_at L level page) ≡ false
+Avoids L shared (SetFlags at level page given) = is_shared shared (path_at L level page) ≡ false
+Avoids L shared (TranslatePage level page) = Unit {0}
 Avoids L shared (Translate p) = Unit {0}
 Avoids L shared (TranslateAddress p) = Unit {0}
 Avoids L shared (CleanUp low high) = (i : ℕ) → shared i ≡ true → meets L low high (i ∷ []) ≡ false
@@ -72,13 +72,13 @@ HasFlags shared root_entry (i ∷ q) given = shared i ≡ true → bit_or (root_
 -- The call changes no entry of the root at a shared index: a map adds no flag to one, no flags are set at the highest level, and
 -- no span of one overlaps the range of a clean up.
 abbrev pub LeavesRootEntry : (L : ℕ) (shared : ℕ → Bool) → (root_entry : ℕ → ℕ) → Call → Type 0
-LeavesRootEntry L shared root_entry (MapTo q frame given) = HasFlags shared root_entry q (parent_part given)
-LeavesRootEntry L shared root_entry (MapToWithTableFlags q frame given parent_flags) = HasFlags shared root_entry q parent_flags
+LeavesRootEntry L shared root_entry (MapTo level page frame given) = HasFlags shared root_entry (path_at L level page) (parent_part given)
+LeavesRootEntry L shared root_entry (MapToWithTableFlags level page frame given parent_flags) = HasFlags shared root_entry (path_at L level page) parent_flags
 LeavesRootEntry L shared root_entry (IdentityMap level frame given) = HasFlags shared root_entry (path_at L level frame) (parent_part given)
-LeavesRootEntry L shared root_entry (Unmap q) = Unit {0}
-LeavesRootEntry L shared root_entry (UpdateFlags q given) = Unit {0}
-LeavesRootEntry L shared root_entry (SetFlags level q given) = is_shared shared q ≡ true → level < L
-LeavesRootEntry L shared root_entry (TranslatePage q) = Unit {0}
+LeavesRootEntry L shared root_entry (Unmap level page) = Unit {0}
+LeavesRootEntry L shared root_entry (UpdateFlags level page given) = Unit {0}
+LeavesRootEntry L shared root_entry (SetFlags at level page given) = is_shared shared (path_at L level page) ≡ true → at < L
+LeavesRootEntry L shared root_entry (TranslatePage level page) = Unit {0}
 LeavesRootEntry L shared root_entry (Translate p) = Unit {0}
 LeavesRootEntry L shared root_entry (TranslateAddress p) = Unit {0}
 LeavesRootEntry L shared root_entry (CleanUp low high) = (i : ℕ) → shared i ≡ true → meets L low high (i ∷ []) ≡ false

@@ -208,7 +208,7 @@ pub record UnflushedCleanUp : Type 0 where
   pub cached : cached_item 4 (words_of emptied_memory identity_places) (start 0x1000) 0 ≡ Some (Table (writable_way (0 ∷ []) 0x2000))
   pub none_recorded : (low high : ℕ) → items_of 4 (CleanUp low high) Cleaned ≡ []
   pub goes_on : walk_with_rights_from 4 (words_of reused_memory identity_places) 0x5000 3 (writable_way (0 ∷ []) 0x2000) ≡ Some (writable_way (0 ∷ 0 ∷ 0 ∷ 5 ∷ []) 0x9000)
-  pub recorded : items_of 4 (MapTo (1 ∷ 0 ∷ 0 ∷ 5 ∷ []) 0x9000 3) (Answered (Done 0x9000)) ≡ OnePage (1 ∷ 0 ∷ 0 ∷ 5 ∷ []) ∷ []
+  pub recorded : items_of 4 (MapTo 1 0x80_0000_5000 0x9000 3) (Answered (Done 0x9000)) ≡ OnePage (1 ∷ 0 ∷ 0 ∷ 5 ∷ []) ∷ []
   pub flushed : page_path 4 0x80_0000_5000 ≡ 1 ∷ 0 ∷ 0 ∷ 5 ∷ []
   pub left : survives 4 (Invlpg 0x80_0000_5000) (Page (writable_way (0 ∷ 0 ∷ 0 ∷ 5 ∷ []) 0x9000)) ≡ true
   pub nowhere : page_walk 4 (words_of reused_memory identity_places) 0x1000 0x5000 ≡ None
@@ -226,7 +226,7 @@ pub record UnflushedNoExecute : Type 0 where
   pub maps : (map_call 4 small_mapped [] 0x8000_0000_0000_0003 0 (0 ∷ 0 ∷ 0 ∷ 2 ∷ []) 0x6000 3).paths
       ≡ put (put (put (put small_mapped (0 ∷ []) 0x8000_0000_0000_2003) (0 ∷ 0 ∷ []) 0x8000_0000_0000_3003) (0 ∷ 0 ∷ 0 ∷ []) 0x8000_0000_0000_4003) (0 ∷ 0 ∷ 0 ∷ 2 ∷ []) 0x6003
   pub left : survives 4 (Invlpg 0x2000) (Page executable_page) ≡ true
-  pub due : flush_after 4 None [] (MapToWithTableFlags (0 ∷ 0 ∷ 0 ∷ 2 ∷ []) 0x6000 3 0x8000_0000_0000_0003) (Answered (Done 0x6000)) ≡ BelowDue (0 ∷ []) ∷ []
+  pub due : flush_after 4 None [] (MapToWithTableFlags 1 0x2000 0x6000 3 0x8000_0000_0000_0003) (Answered (Done 0x6000)) ≡ BelowDue (0 ∷ []) ∷ []
 
 -- ---- a table that is named before it is cleared
 
@@ -241,4 +241,4 @@ uncleared_memory = insert (insert (insert (insert (empty {X = List ℕ} {R = nat
 pub record UnclearedTable : Type 0 where
   pub in_between : walk_with_rights 4 (words_of uncleared_memory identity_places) 0x1000 0x2000 ≡ Some (writable_way (0 ∷ 0 ∷ 0 ∷ 2 ∷ []) 0x7000)
   pub afterwards : page_walk 4 (words_of small_memory identity_places) 0x1000 0x2000 ≡ None
-  pub none_due : flush_after 4 None [] (MapTo (0 ∷ 0 ∷ 0 ∷ 1 ∷ []) 0x5000 3) (Answered (Done 0x5000)) ≡ []
+  pub none_due : flush_after 4 None [] (MapTo 1 0x1000 0x5000 3) (Answered (Done 0x5000)) ≡ []

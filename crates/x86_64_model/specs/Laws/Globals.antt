@@ -19,16 +19,16 @@ GlobalsBelow L shared paths = (q : List ℕ) → maps_page (level_of L q) (entry
 -- The entry of a page that the call writes, the flags that it sets, and the parent flags of a map, which an entry of a larger page
 -- above may get, have GLOBAL only if the path of the call's page begins with a shared index.
 abbrev pub GlobalIsShared : (L : ℕ) → (shared : ℕ → Bool) → Call → Type 0
-GlobalIsShared L shared (MapTo q frame given) = is_shared shared q ≡ false
-    → global (leaf_entry L q frame given) ≡ false
-GlobalIsShared L shared (MapToWithTableFlags q frame given parent_flags) = is_shared shared q ≡ false
-    → (global (leaf_entry L q frame given) ≡ false) × (global parent_flags ≡ false)
+GlobalIsShared L shared (MapTo level page frame given) = is_shared shared (path_at L level page) ≡ false
+    → global (leaf_entry L (path_at L level page) frame given) ≡ false
+GlobalIsShared L shared (MapToWithTableFlags level page frame given parent_flags) = is_shared shared (path_at L level page) ≡ false
+    → (global (leaf_entry L (path_at L level page) frame given) ≡ false) × (global parent_flags ≡ false)
 GlobalIsShared L shared (IdentityMap level frame given) = is_shared shared (path_at L level frame) ≡ false
     → global (leaf_entry L (path_at L level frame) frame given) ≡ false
-GlobalIsShared L shared (Unmap q) = Unit {0}
-GlobalIsShared L shared (UpdateFlags q given) = is_shared shared q ≡ false → global given ≡ false
-GlobalIsShared L shared (SetFlags level q given) = is_shared shared q ≡ false → global given ≡ false
-GlobalIsShared L shared (TranslatePage q) = Unit {0}
+GlobalIsShared L shared (Unmap level page) = Unit {0}
+GlobalIsShared L shared (UpdateFlags level page given) = is_shared shared (path_at L level page) ≡ false → global given ≡ false
+GlobalIsShared L shared (SetFlags at level page given) = is_shared shared (path_at L level page) ≡ false → global given ≡ false
+GlobalIsShared L shared (TranslatePage level page) = Unit {0}
 GlobalIsShared L shared (Translate p) = Unit {0}
 GlobalIsShared L shared (TranslateAddress p) = Unit {0}
 GlobalIsShared L shared (CleanUp low high) = Unit {0}

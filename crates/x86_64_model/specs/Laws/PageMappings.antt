@@ -27,7 +27,7 @@ pub record IsMappable (m : Machine) (paths : PathMap) (x : PageMapping) : Type 0
   pub inside : x.page < position_count m.levels
   pub is_present : present x.flags ≡ true
   pub unmapped : IsUnmapped paths (entry_path m.levels x)
-  pub allowed : allowed m.levels m.window paths (map_call_of m.levels x) ≡ true
+  pub allowed : allowed m.levels m.window paths (map_call_of x) ≡ true
 
 -- Each parent of the page that has no entry is among these paths.
 abbrev pub HasMissing : (L : ℕ) → PathMap → (tables : List (List ℕ)) → PageMapping → Type 0
@@ -39,7 +39,7 @@ abbrev pub MappingsSucceed : Type 0
 MappingsSucceed = (m : Machine) → IsMachine m → (T : Words) (root : ℕ) (serves : ℕ → Bool) (s : State) → FitsState m T root serves s
     → (xs : List PageMapping) → AllByRecursion (IsMappable m s.paths) xs → EachApart xs
     → (tables : List (List ℕ)) → AllByRecursion (HasMissing m.levels s.paths tables) xs → length tables ≤ length s.pool
-    → replies_of m s (map_calls m.levels xs) ≡ map accepted xs
+    → replies_of m s (map_calls xs) ≡ map accepted xs
 
 -- ---- pages that stand
 
@@ -51,8 +51,8 @@ AsksFor L x = Asks L x.level (entry_path L x) x.frame x.flags
 -- before. A page stands if its entry is the one that `map_to` writes, below parents that name tables and have its parent flags.
 abbrev pub MappingsStand : Type 0
 MappingsStand = (m : Machine) → IsMachine m → (T : Words) (root : ℕ) (serves : ℕ → Bool) (s : State) → FitsState m T root serves s
-    → (xs : List PageMapping) → AllByRecursion (AsksFor m.levels) xs → replies_of m s (map_calls m.levels xs) ≡ map accepted xs
-    → let after = (state_after m s (map_calls m.levels xs)).paths in
+    → (xs : List PageMapping) → AllByRecursion (AsksFor m.levels) xs → replies_of m s (map_calls xs) ≡ map accepted xs
+    → let after = (state_after m s (map_calls xs)).paths in
     AllByRecursion (λ x. IsMappedIn m.levels x.level after (entry_path m.levels x) x.frame x.flags) xs
     × ((level : ℕ) (page : List ℕ) (frame flags : ℕ) → IsMappedIn m.levels level s.paths page frame flags → IsMappedIn m.levels level after page frame flags)
 
@@ -83,4 +83,4 @@ pub record TwoPagesMapped : Type 0 where
   pub apart : EachApart two_pages
   pub tables : AllByRecursion (HasMissing 4 nothing_mapped their_tables) two_pages
   pub asks : AllByRecursion (AsksFor 4) two_pages
-  pub replies : replies_of four_levels nothing_yet (map_calls 4 two_pages) ≡ Answered (Done 0x6000) ∷ Answered (Done 0x40_0000) ∷ []
+  pub replies : replies_of four_levels nothing_yet (map_calls two_pages) ≡ Answered (Done 0x6000) ∷ Answered (Done 0x40_0000) ∷ []

@@ -78,7 +78,7 @@ FlushesSuffice = (m : Machine) → IsMachine m → (T V U : Words) (root : ℕ) 
 
 -- The page, the frame and the flags of a `map_to` or an `identity_map`, None for any other call.
 abbrev pub mapping_asked : (L : ℕ) → Call → Option (List ℕ × (ℕ × ℕ))
-mapping_asked L (MapTo q frame given) = Some (q, (frame, given))
+mapping_asked L (MapTo level page frame given) = Some (path_at L level page, (frame, given))
 mapping_asked L (IdentityMap level frame given) = Some (path_at L level frame, (frame, given))
 mapping_asked L call = None
 

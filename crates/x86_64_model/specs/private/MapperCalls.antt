@@ -1,6 +1,6 @@
 -- What a mapper's calls leave in its memory, one record for each kind of call. Here m is the memory before, and n the memory
 -- after.
-use Rattle.std.specs.Prelude.{◌≡◌, ℕ, List}
+use Rattle.std.specs.Prelude.{◌≡◌, ℕ, List, Option, Some}
 use Rattle.x86_64_model.specs.Memory.{Memory}
 use Rattle.x86_64_model.specs.Lists.{In}
 use Rattle.x86_64_model.specs.Pool.{IsTable}
@@ -9,7 +9,7 @@ use Rattle.x86_64_model.specs.MapRule.{map_call}
 use Rattle.x86_64_model.specs.PageRules.{AfterChange, unmap, update_flags, set_flags}
 use Rattle.x86_64_model.specs.Arrivals.{Arrives}
 use Rattle.x86_64_model.specs.Layout.{Layout}
-use Rattle.x86_64_model.specs.Hierarchy.{◌laid_in◌, KeepsOthers, Owns, SupplyFits, Valid, paths, read_entry, walk}
+use Rattle.x86_64_model.specs.Hierarchy.{◌laid_in◌, Hierarchy, Changes, KeepsOthers, Maps, Owns, SupplyFits, Valid, paths, read_entry, walk}
 
 -- The frame holds the root or another table, or was taken from the supply (the frames to hand out, in order), of which the rest
 -- is left.
@@ -46,3 +46,12 @@ pub record IsChanged (l : Layout) (m : Memory) (after : AfterChange) (n : Memory
   pub valid : Valid (l laid_in n)
   pub ready : (supply : List ℕ) → SupplyFits (l laid_in m) supply → SupplyFits (l laid_in n) supply
   pub others : KeepsOthers (IsTable l.levels l.root (paths (l laid_in m))) (l laid_in m) (l laid_in n)
+
+-- The effect of a change of one entry, whose outcome by its rule is given.
+abbrev pub ChangesBy : {Lent : Type 0} → Hierarchy Lent → (rule : AfterChange) → Answer → (after : Hierarchy Lent) → Type 0
+ChangesBy h rule answer after = Changes h (Some rule) answer after
+
+-- The effect of a map of the page at a path, after which the rest of the supply is left.
+abbrev pub MapsPath : {Lent : Type 0} → Hierarchy Lent → (supply : List ℕ) → (page : List ℕ) → (frame flags parent_flags : ℕ) → Answer → (after : Hierarchy Lent) → (rest : List ℕ) → Type 0
+MapsPath h supply page frame given parent_flags answer after rest =
+    Maps h supply (Some (map_call h.layout.levels (paths h) supply parent_flags h.layout.added_flags page frame given)) (Some parent_flags) answer after rest

@@ -27,7 +27,7 @@ use Rattle.x86_64_model.proofs.Lemmas.CleanUps.Answers.{gone, stays}
 use Rattle.x86_64_model.proofs.Lemmas.CleanUps.Frames.{removed_leads, root_stays}
 use Rattle.x86_64_model.proofs.Lemmas.CleanUps.Trees.{given_frames}
 use Rattle.x86_64_model.proofs.Lemmas.Machines.Changes.{unmap_change, update_change, set_flags_kept}
-use Rattle.x86_64_model.proofs.Lemmas.Machines.Effects.{MapMay, map_may, step_cases}
+use Rattle.x86_64_model.proofs.Lemmas.Machines.Effects.{MapMay, map_may, page_of_level, step_cases}
 use Rattle.x86_64_model.proofs.Lemmas.Machines.States.{IsSound}
 use Rattle.x86_64_model.proofs.Lemmas.Paths.Begins.{begins_itself}
 use Rattle.x86_64_model.proofs.Lemmas.Spaces.Calls.{map_avoids}
@@ -49,19 +49,19 @@ module _ (m : Machine) (root : ℕ) (serves : ℕ → Bool) (s : State) (sound :
     (cleans : (low high : ℕ) → P (CleanUp low high) (record { paths = (clean_up m.levels s.paths low high).paths; pool = with_returned m.take_back s.pool (clean_up m.levels s.paths low high).back }) (TablesDue (clean_up m.levels s.paths low high).back ∷ if_window m.window)) where
   done_cases : (call : Call) → IsCall m.levels call → allowed m.levels m.window s.paths call ≡ true → P call (do_call m s call).state (flush_after m.levels m.window (freed_by m.levels s call) call (do_call m s call).reply)
   unfolding do_call
-  done_cases (MapTo q frame given) is h = maps (MapTo q frame given) q frame given (parent_part given) [] refl (map_may m.levels m.window s.paths q given _ h) (λ x. let t : true ≡ false = sym x ∙ no_execute_part given in cc)
-  done_cases (MapToWithTableFlags q frame given more) is h = maps (MapToWithTableFlags q frame given more) q frame given more _ refl (map_may m.levels m.window s.paths q given _ h) (λ x. ap (λ b. cond b (below_due m.window (take 1 q)) []) x)
+  done_cases (MapTo level page frame given) is h = let q = path_at m.levels level page in maps (MapTo level page frame given) q frame given (parent_part given) [] refl (map_may m.levels m.window s.paths q given _ h) (λ x. let t : true ≡ false = sym x ∙ no_execute_part given in cc)
+  done_cases (MapToWithTableFlags level page frame given more) is h = let q = path_at m.levels level page in maps (MapToWithTableFlags level page frame given more) q frame given more _ refl (map_may m.levels m.window s.paths q given _ h) (λ x. ap (λ b. cond b (below_due m.window (take 1 q)) []) x)
   done_cases (IdentityMap level frame given) is h = maps (IdentityMap level frame given) (path_at m.levels level frame) frame given (parent_part given) [] refl
       (map_may m.levels m.window s.paths (path_at m.levels level frame) given _ (and_parts _ _ h).1) (λ x. let t : true ≡ false = sym x ∙ no_execute_part given in cc)
-  done_cases (Unmap q) is h = unmap_change m.levels m.window s.paths q is (not-true _ h) (λ c. P (Unmap q) (after_change s.pool c).state (if_accepted (after_change s.pool c).reply (λ frame. page_due m.levels m.window q frame)))
-      (λ why. nothing (Unmap q) []) (λ c. pages (Unmap q) q 0 (sym c.same_table ∙ unused_no_table m.levels q))
-  done_cases (UpdateFlags q given) is h = update_change m.levels m.window s.paths q is (not-true _ (and_parts _ _ h).1) given (λ c. P (UpdateFlags q given) (after_change s.pool c).state (if_accepted (after_change s.pool c).reply (λ frame. page_due m.levels m.window q frame)))
-      (λ why. nothing (UpdateFlags q given) []) (λ c. pages (UpdateFlags q given) q _ (sym c.same_table ∙ none_at_leaf m.levels q _ given))
-  done_cases (SetFlags level q given) is h = let a = and_parts _ _ h in let b = and_parts _ _ a.0 in
-      set_flags_kept m.levels m.window root s.paths sound.hierarchy level q given is.0 is.1 is.2 (not-true _ b.1) b.0 a.1 (λ c. P (SetFlags level q given) (after_change s.pool c).state (if_accepted (after_change s.pool c).reply (λ frame. below_due m.window (front_at m.levels level q))))
-      (λ why. nothing (SetFlags level q given) []) (λ c k. tables (SetFlags level q given) (front_at m.levels level q) _
+  done_cases (Unmap level page) is h = let q = path_at m.levels level page in unmap_change m.levels m.window s.paths q (page_of_level m.levels level page is) (not-true _ h) (λ c. P (Unmap level page) (after_change s.pool c).state (if_accepted (after_change s.pool c).reply (λ frame. page_due m.levels m.window q frame)))
+      (λ why. nothing (Unmap level page) []) (λ c. pages (Unmap level page) q 0 (sym c.same_table ∙ unused_no_table m.levels q))
+  done_cases (UpdateFlags level page given) is h = let q = path_at m.levels level page in update_change m.levels m.window s.paths q (page_of_level m.levels level page is) (not-true _ (and_parts _ _ h).1) given (λ c. P (UpdateFlags level page given) (after_change s.pool c).state (if_accepted (after_change s.pool c).reply (λ frame. page_due m.levels m.window q frame)))
+      (λ why. nothing (UpdateFlags level page given) []) (λ c. pages (UpdateFlags level page given) q _ (sym c.same_table ∙ none_at_leaf m.levels q _ given))
+  done_cases (SetFlags at level page given) is h = let q = path_at m.levels level page in let a = and_parts _ _ h in let b = and_parts _ _ a.0 in
+      set_flags_kept m.levels m.window root s.paths sound.hierarchy at q given is.0 is.1 (page_of_level m.levels level page is.2) (not-true _ b.1) b.0 a.1 (λ c. P (SetFlags at level page given) (after_change s.pool c).state (if_accepted (after_change s.pool c).reply (λ frame. below_due m.window (front_at m.levels at q))))
+      (λ why. nothing (SetFlags at level page given) []) (λ c k. tables (SetFlags at level page given) (front_at m.levels at q) _
       (record { was_used = c.is_used; is_used = k.is_used; same_huge = k.same_huge; same_address = k.same_address }))
-  done_cases (TranslatePage q) is h = nothing (TranslatePage q) []
+  done_cases (TranslatePage level page) is h = nothing (TranslatePage level page) []
   done_cases (Translate p) is h = nothing (Translate p) []
   done_cases (TranslateAddress p) is h = nothing (TranslateAddress p) []
   done_cases (CleanUp low high) is h = cleans low high

@@ -34,6 +34,7 @@ unfolding page_path index
 left = refl
 
 pub unflushed_clean_up : UnflushedCleanUp
+unfolding page_path index
 unflushed_clean_up = record { cached = cached; none_recorded = λ low high. refl; goes_on = goes_on; recorded = refl; flushed = flushed; left = left; nowhere = nowhere }
 
 before : walk_with_rights 4 (words_of small_memory identity_places) 0x1000 0x1000 ≡ Some executable_page
@@ -50,7 +51,7 @@ unfolding page_path index
 still = refl
 
 pub unflushed_no_execute : UnflushedNoExecute
-unfolding has
+unfolding has page_path index
 unflushed_no_execute = record { before = before; maps = maps; left = still; due = refl }
 
 in_between : walk_with_rights 4 (words_of uncleared_memory identity_places) 0x1000 0x2000 ≡ Some (writable_way (0 ∷ 0 ∷ 0 ∷ 2 ∷ []) 0x7000)

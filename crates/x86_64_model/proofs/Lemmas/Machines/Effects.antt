@@ -10,7 +10,7 @@ use Rattle.x86_64_model.specs.Position.{page_path}
 use Rattle.x86_64_model.specs.MapRule.{map_call, parent_part}
 use Rattle.x86_64_model.specs.CleanUp.{clean_up}
 use Rattle.x86_64_model.specs.Path.{AllBelow, front_at, IsPage, path_at, begins}
-use Rattle.x86_64_model.specs.Call.{IsCall, Call, MapTo, MapToWithTableFlags, IdentityMap, Unmap, UpdateFlags, SetFlags, TranslatePage, Translate, TranslateAddress, CleanUp, NotAllowed}
+use Rattle.x86_64_model.specs.Call.{IsCall, IsPageLevel, Call, MapTo, MapToWithTableFlags, IdentityMap, Unmap, UpdateFlags, SetFlags, TranslatePage, Translate, TranslateAddress, CleanUp, NotAllowed}
 use Rattle.x86_64_model.specs.Machine.{Machine, State, AfterCall, only_reply, after_map, after_change, do_call, step}
 use Rattle.x86_64_model.specs.Allowed.{parents_present, map_allowed, allowed}
 use Rattle.x86_64_model.specs.Pool.{with_returned}
@@ -52,6 +52,9 @@ page_at_level L level p a b c =
     let long : length (path_at L level p) ≡ L + 1 - level = length_taken p (L + 1 - level) L (omega arith) in
     record { nonempty = omega arith; at_least = omega arith; at_most = omega arith; below = below_taken p (L + 1 - level) L }
 
+pub page_of_level : (L level position : ℕ) → IsPageLevel L level → IsPage L (path_at L level position)
+page_of_level L level p is = page_at_level L level p is.0 is.1 is.2
+
 -- what holds of an allowed call, and of the reply that a call isn't allowed, holds of a step
 pub step_cases : (m : Machine) (s : State) (call : Call) (P : AfterCall → Type 0) → (allowed m.levels m.window s.paths call ≡ true → P (do_call m s call)) → P (only_reply s NotAllowed) → P (step m s call)
 step_cases m s call P done otherwise = elim (allowed m.levels m.window s.paths call) as (λ b. allowed m.levels m.window s.paths call ≡ b → P (cond b (do_call m s call) (only_reply s NotAllowed))) [
@@ -64,13 +67,13 @@ abbrev pub machine : (L : ℕ) → Option Window → (added : ℕ) → (List ℕ
 machine L window added take_back = record { levels = L; window = window; added_flags = added; take_back = take_back }
 
 pub no_items : (L : ℕ) (call : Call) → items_of L call NotAllowed ≡ []
-no_items L (MapTo q frame given) = refl
-no_items L (MapToWithTableFlags q frame given more) = refl
+no_items L (MapTo level page frame given) = refl
+no_items L (MapToWithTableFlags level page frame given more) = refl
 no_items L (IdentityMap n frame given) = refl
-no_items L (Unmap q) = refl
-no_items L (UpdateFlags q given) = refl
-no_items L (SetFlags n q given) = refl
-no_items L (TranslatePage q) = refl
+no_items L (Unmap level page) = refl
+no_items L (UpdateFlags level page given) = refl
+no_items L (SetFlags at level page given) = refl
+no_items L (TranslatePage level page) = refl
 no_items L (Translate p) = refl
 no_items L (TranslateAddress p) = refl
 no_items L (CleanUp low high) = refl
@@ -83,17 +86,17 @@ module _ (L : ℕ) (window : Option Window) (added : ℕ) (take_back : List ℕ 
     (cleans : (low high : ℕ) → P (record { paths = (clean_up L s.paths low high).paths; pool = with_returned take_back s.pool (clean_up L s.paths low high).back }) []) where
   pub done_ind : (call : Call) → IsCall L call → allowed L window s.paths call ≡ true → P (do_call (machine L window added take_back) s call).state (items_of L call (do_call (machine L window added take_back) s call).reply)
   unfolding do_call
-  done_ind (MapTo q frame given) is h = maps q frame given (parent_part given) _ is (map_may L window s.paths q given _ h)
-  done_ind (MapToWithTableFlags q frame given more) is h = maps q frame given more _ is (map_may L window s.paths q given _ h)
-  done_ind (IdentityMap level frame given) is h = maps (path_at L level frame) frame given (parent_part given) _ (page_at_level L level frame is.0 is.1 is.2) (map_may L window s.paths (path_at L level frame) given _ (and_parts _ _ h).1)
-  done_ind (Unmap q) is h = unmap_change L window s.paths q is (not-true _ h) (λ c. P (after_change s.pool c).state (if_done (after_change s.pool c).reply (OnePage q)))
+  done_ind (MapTo level page frame given) is h = let q = path_at L level page in maps q frame given (parent_part given) _ (page_of_level L level page is) (map_may L window s.paths q given _ h)
+  done_ind (MapToWithTableFlags level page frame given more) is h = let q = path_at L level page in maps q frame given more _ (page_of_level L level page is) (map_may L window s.paths q given _ h)
+  done_ind (IdentityMap level frame given) is h = maps (path_at L level frame) frame given (parent_part given) _ (page_of_level L level frame is) (map_may L window s.paths (path_at L level frame) given _ (and_parts _ _ h).1)
+  done_ind (Unmap level page) is h = let q = path_at L level page in unmap_change L window s.paths q (page_of_level L level page is) (not-true _ h) (λ c. P (after_change s.pool c).state (if_done (after_change s.pool c).reply (OnePage q)))
       (λ why. nothing) (λ c. changes q 0 (OnePage q) c (λ p o. o))
-  done_ind (UpdateFlags q given) is h = update_change L window s.paths q is (not-true _ (and_parts _ _ h).1) given (λ c. P (after_change s.pool c).state (if_done (after_change s.pool c).reply (OnePage q)))
+  done_ind (UpdateFlags level page given) is h = let q = path_at L level page in update_change L window s.paths q (page_of_level L level page is) (not-true _ (and_parts _ _ h).1) given (λ c. P (after_change s.pool c).state (if_done (after_change s.pool c).reply (OnePage q)))
       (λ why. nothing) (λ c. changes q _ (OnePage q) c (λ p o. o))
-  done_ind (SetFlags level q given) is h = let a = and_parts _ _ h in let b = and_parts _ _ a.0 in
-      set_flags_change L window root s.paths hierarchy level q given is.0 is.1 is.2 (not-true _ b.1) b.0 a.1 (λ c. P (after_change s.pool c).state (if_done (after_change s.pool c).reply Everything))
-      (λ why. nothing) (λ c. changes (front_at L level q) _ Everything c (λ p o. cc))
-  done_ind (TranslatePage q) is h = nothing
+  done_ind (SetFlags at level page given) is h = let q = path_at L level page in let a = and_parts _ _ h in let b = and_parts _ _ a.0 in
+      set_flags_change L window root s.paths hierarchy at q given is.0 is.1 (page_of_level L level page is.2) (not-true _ b.1) b.0 a.1 (λ c. P (after_change s.pool c).state (if_done (after_change s.pool c).reply Everything))
+      (λ why. nothing) (λ c. changes (front_at L at q) _ Everything c (λ p o. cc))
+  done_ind (TranslatePage level page) is h = nothing
   done_ind (Translate p) is h = nothing
   done_ind (TranslateAddress p) is h = nothing
   done_ind (CleanUp low high) is h = cleans low high

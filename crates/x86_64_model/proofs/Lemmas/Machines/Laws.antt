@@ -19,7 +19,7 @@ use Rattle.x86_64_model.specs.Laws.CleanUps.{CleanUpConserves, CleanUpKeepsAnswe
 use Rattle.x86_64_model.specs.Laws.Maps.{RefusedMaps, MapTakesFew, WalkedDown}
 use Rattle.x86_64_model.specs.Laws.Pairs.{NoneNames, AlikeRuns, PairsReplyAlike}
 use Rattle.x86_64_model.proofs.Lemmas.Hierarchies.Trees.{tree_of_holds}
-use Rattle.x86_64_model.proofs.Lemmas.Machines.Effects.{machine, MapMay, map_may, page_at_level, step_cases}
+use Rattle.x86_64_model.proofs.Lemmas.Machines.Effects.{machine, MapMay, map_may, page_of_level, step_cases}
 use Rattle.x86_64_model.proofs.Lemmas.Machines.States.{IsSound, all_in, step_conserves}
 use Rattle.x86_64_model.proofs.Lemmas.Machines.Fitting.{sound_of_fits, step_fits, run_conserves, run_fits}
 use Rattle.x86_64_model.proofs.Lemmas.Machines.Witness.{step_witness}
@@ -112,13 +112,13 @@ module _ (L : ℕ) (window : Option Window) (root : ℕ) (serves : ℕ → Bool)
 
   done_spares : (call : Call) → IsCall L call → allowed L window s.paths call ≡ true → items_of L call (do_call (machine L window added take_back) s call).reply ≡ OnePage q ∷ [] → Spared (do_call (machine L window added take_back) s call).state.paths
   unfolding do_call
-  done_spares (MapTo r frame given) is h e = maps_spare r frame given (parent_part given) is (map_may L window s.paths r given _ h) e
-  done_spares (MapToWithTableFlags r frame given more) is h e = maps_spare r frame given more is (map_may L window s.paths r given more h) e
-  done_spares (IdentityMap level frame given) is h e = maps_spare (path_at L level frame) frame given (parent_part given) (page_at_level L level frame is.0 is.1 is.2) (map_may L window s.paths (path_at L level frame) given _ (and_parts _ _ h).1) e
-  done_spares (Unmap r) is h e = let d = done_item (unmap L (entry_at window s.paths) s.paths r).answer r q e in unmap_elsewhere L window s.paths r is (not-true _ h) p (ap (λ r. begins r (page_path L p)) d.1 ∙ off) out
-  done_spares (UpdateFlags r given) is h e = let d = done_item (update_flags L (entry_at window s.paths) s.paths r given).answer r q e in update_elsewhere L window s.paths r given is (not-true _ (and_parts _ _ h).1) p (ap (λ r. begins r (page_path L p)) d.1 ∙ off) out
-  done_spares (SetFlags level r given) is h e = absurd (never_page (set_flags L (entry_at window s.paths) s.paths level r given).answer q e)
-  done_spares (TranslatePage r) is h e = refl
+  done_spares (MapTo level page frame given) is h e = let r = path_at L level page in maps_spare r frame given (parent_part given) (page_of_level L level page is) (map_may L window s.paths r given _ h) e
+  done_spares (MapToWithTableFlags level page frame given more) is h e = let r = path_at L level page in maps_spare r frame given more (page_of_level L level page is) (map_may L window s.paths r given more h) e
+  done_spares (IdentityMap level frame given) is h e = maps_spare (path_at L level frame) frame given (parent_part given) (page_of_level L level frame is) (map_may L window s.paths (path_at L level frame) given _ (and_parts _ _ h).1) e
+  done_spares (Unmap level page) is h e = let r = path_at L level page in let d = done_item (unmap L (entry_at window s.paths) s.paths r).answer r q e in unmap_elsewhere L window s.paths r (page_of_level L level page is) (not-true _ h) p (ap (λ r. begins r (page_path L p)) d.1 ∙ off) out
+  done_spares (UpdateFlags level page given) is h e = let r = path_at L level page in let d = done_item (update_flags L (entry_at window s.paths) s.paths r given).answer r q e in update_elsewhere L window s.paths r given (page_of_level L level page is) (not-true _ (and_parts _ _ h).1) p (ap (λ r. begins r (page_path L p)) d.1 ∙ off) out
+  done_spares (SetFlags at level page given) is h e = let r = path_at L level page in absurd (never_page (set_flags L (entry_at window s.paths) s.paths at r given).answer q e)
+  done_spares (TranslatePage level page) is h e = refl
   done_spares (Translate t) is h e = refl
   done_spares (TranslateAddress t) is h e = refl
   done_spares (CleanUp low high) is h e = absurd (none_recorded q e)

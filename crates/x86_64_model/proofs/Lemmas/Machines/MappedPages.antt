@@ -11,7 +11,7 @@ use Rattle.x86_64_model.specs.PageMappings.{PageMapping, entry_path, map_call_of
 use Rattle.x86_64_model.specs.PathMap.{PathMap}
 use Rattle.x86_64_model.specs.Refusal.{Answer, Done}
 use Rattle.x86_64_model.specs.Standing.{IsMappedIn}
-use Rattle.x86_64_model.proofs.Lemmas.Machines.Effects.{page_at_level, step_cases}
+use Rattle.x86_64_model.proofs.Lemmas.Machines.Effects.{step_cases}
 use Rattle.x86_64_model.proofs.Lemmas.Machines.Fitting.{sound_of_fits}
 use Rattle.x86_64_model.proofs.Lemmas.Machines.Laws.{step_is_held}
 use Rattle.x86_64_model.proofs.Lemmas.Machines.States.{all_in}
@@ -35,43 +35,43 @@ module _ (m : Machine) (is : IsMachine m) (T : Words) (root : ℕ) (serves : ℕ
   abbrev after : AfterMap
   after = map_call m.levels s.paths s.pool (parent_part x.flags) m.added_flags (entry_path m.levels x) x.frame x.flags
 
-  is_call : IsCall m.levels (map_call_of m.levels x)
-  is_call = page_at_level m.levels x.level x.page asks.low asks.high (let at = asks.at_level in let some = asks.nonempty in omega (arith, at, some))
+  is_call : IsCall m.levels (map_call_of x)
+  is_call = (asks.low, asks.high, let at = asks.at_level in let some = asks.nonempty in omega (arith, at, some))
 
   -- what an accepted map leaves, an accepted step does
-  by_map : (P : PathMap → Type 0) → (after.answer ≡ Done x.frame → P after.paths) → (step m s (map_call_of m.levels x)).reply ≡ accepted x → P (step m s (map_call_of m.levels x)).state.paths
+  by_map : (P : PathMap → Type 0) → (after.answer ≡ Done x.frame → P after.paths) → (step m s (map_call_of x)).reply ≡ accepted x → P (step m s (map_call_of x)).state.paths
   unfolding do_call
-  by_map P done = step_cases m s (map_call_of m.levels x) (λ (a : AfterCall). a.reply ≡ accepted x → P a.state.paths) (λ _ e. done (answer_same after.answer (Done x.frame) e)) (λ e. cc)
+  by_map P done = step_cases m s (map_call_of x) (λ (a : AfterCall). a.reply ≡ accepted x → P a.state.paths) (λ _ e. done (answer_same after.answer (Done x.frame) e)) (λ e. cc)
 
-  pub one_stands : (step m s (map_call_of m.levels x)).reply ≡ accepted x → StandsIn m.levels (step m s (map_call_of m.levels x)).state.paths x
+  pub one_stands : (step m s (map_call_of x)).reply ≡ accepted x → StandsIn m.levels (step m s (map_call_of x)).state.paths x
   one_stands = by_map (λ paths. StandsIn m.levels paths x) (accepted_stands m.levels x.level _ root s.paths s.pool m.added_flags (entry_path m.levels x) x.frame x.flags fits.valid.valid.holds is.adds
       (all_in s.pool (sound_of_fits m.levels m.window T root serves s fits).frames) asks)
 
-  pub one_leaves : (step m s (map_call_of m.levels x)).reply ≡ accepted x → (level : ℕ) (page : List ℕ) (frame flags : ℕ)
-      → IsMappedIn m.levels level s.paths page frame flags → IsMappedIn m.levels level (step m s (map_call_of m.levels x)).state.paths page frame flags
+  pub one_leaves : (step m s (map_call_of x)).reply ≡ accepted x → (level : ℕ) (page : List ℕ) (frame flags : ℕ)
+      → IsMappedIn m.levels level s.paths page frame flags → IsMappedIn m.levels level (step m s (map_call_of x)).state.paths page frame flags
   one_leaves e level page frame flags stands = by_map (λ paths. IsMappedIn m.levels level paths page frame flags)
       (λ done. standing_is_left m.levels level _ root s.paths s.pool (parent_part x.flags) m.added_flags (entry_path m.levels x) x.frame x.flags fits.valid.valid.holds (part_is_flags x.flags)
       (let at = asks.at_level in let low = asks.low in omega (arith, at, low)) page frame flags stands (inr (λ refused. let t = sym done ∙ refused in cc))) e
 
 module _ (m : Machine) (is : IsMachine m) (root : ℕ) (serves : ℕ → Bool) where
   abbrev pub end : State → List PageMapping → PathMap
-  end s xs = (state_after m s (map_calls m.levels xs)).paths
+  end s xs = (state_after m s (map_calls xs)).paths
 
   -- pages that stood before
-  pub pages_stay : (xs : List PageMapping) (T : Words) (s : State) → FitsState m T root serves s → AllByRecursion (AsksFor m.levels) xs → replies_of m s (map_calls m.levels xs) ≡ map accepted xs
+  pub pages_stay : (xs : List PageMapping) (T : Words) (s : State) → FitsState m T root serves s → AllByRecursion (AsksFor m.levels) xs → replies_of m s (map_calls xs) ≡ map accepted xs
       → (level : ℕ) (page : List ℕ) (frame flags : ℕ) → IsMappedIn m.levels level s.paths page frame flags → IsMappedIn m.levels level (end s xs) page frame flags
   pages_stay [] T s fits asks e level page frame flags stands = stands
   pages_stay (x ∷ xs) T s fits asks e level page frame flags stands =
-      let held = step_is_held m is T root serves s (map_call_of m.levels x) (is_call m is T root serves s fits x asks.0) fits in
-      pages_stay xs held.0 (step m s (map_call_of m.levels x)).state held.1 asks.1 (rest_same _ _ _ _ e) level page frame flags
+      let held = step_is_held m is T root serves s (map_call_of x) (is_call m is T root serves s fits x asks.0) fits in
+      pages_stay xs held.0 (step m s (map_call_of x)).state held.1 asks.1 (rest_same _ _ _ _ e) level page frame flags
       (one_leaves m is T root serves s fits x asks.0 (first_same _ _ _ _ e) level page frame flags stands)
 
-  pub pages_stand : (xs : List PageMapping) (T : Words) (s : State) → FitsState m T root serves s → AllByRecursion (AsksFor m.levels) xs → replies_of m s (map_calls m.levels xs) ≡ map accepted xs
+  pub pages_stand : (xs : List PageMapping) (T : Words) (s : State) → FitsState m T root serves s → AllByRecursion (AsksFor m.levels) xs → replies_of m s (map_calls xs) ≡ map accepted xs
       → AllByRecursion (StandsIn m.levels (end s xs)) xs
   pages_stand [] T s fits asks e = tt
   pages_stand (x ∷ xs) T s fits asks e =
-      let held = step_is_held m is T root serves s (map_call_of m.levels x) (is_call m is T root serves s fits x asks.0) fits in
-      let next = (step m s (map_call_of m.levels x)).state in
+      let held = step_is_held m is T root serves s (map_call_of x) (is_call m is T root serves s fits x asks.0) fits in
+      let next = (step m s (map_call_of x)).state in
       let rest = rest_same _ _ _ _ e in (
         pages_stay xs held.0 next held.1 asks.1 rest x.level (entry_path m.levels x) x.frame x.flags (one_stands m is T root serves s fits x asks.0 (first_same _ _ _ _ e)),
         pages_stand xs held.0 next held.1 asks.1 rest,

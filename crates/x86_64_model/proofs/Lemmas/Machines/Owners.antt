@@ -9,7 +9,7 @@ use Rattle.x86_64_model.proofs.Lemmas.Maps.Mapped.{arrives_in_page}
 use Rattle.x86_64_model.specs.Laws.Rules.{MapsAreSteps, ChangesAreSteps, CleanUpsAreSteps}
 use Rattle.x86_64_model.specs.Machine.{do_call, after_map, after_change, only_reply}
 use Rattle.x86_64_model.specs.MapRule.{map_call, parent_part, leaf_entry}
-use Rattle.x86_64_model.specs.private.MapperCalls.{MapsPage, IsChanged, after_unmap, after_update, after_set_flags}
+use Rattle.x86_64_model.specs.private.MapperCalls.{ChangesBy, MapsPage, MapsPath, IsChanged, after_unmap, after_update, after_set_flags}
 use Rattle.x86_64_model.specs.Memory.{Memory}
 use Rattle.x86_64_model.specs.Hierarchy.{◌laid_in◌, Hierarchy, MayMap, Does, DoesMap, ArrivesIn, CleansUp, Steps, allows, allows_map_call, change_outcome, machine_of, map_outcome, state_of, named, paths, read_entry, SupplyFits, walk}
 use Rattle.x86_64_model.specs.PageRules.{AfterChange, refused_or, update_refusal, update_flags, set_flags}
@@ -22,20 +22,12 @@ use Rattle.x86_64_model.specs.Refusal.{Refusal, PageNotMapped, ParentEntryHugePa
 
 module _ {Lent : Type 0} (h : Hierarchy Lent) (supply : List ℕ) where
   -- a `map_to` is a map with the parent flags from its own flags
-  pub may_map_to : (q : List ℕ) (frame given : ℕ) → MayMap h supply (MapTo q frame given) → MayMap h supply (MapToWithTableFlags q frame given (parent_part given))
-  may_map_to q frame given may = record { fits = may.fits; allowed = may.allowed }
-
-  module _ (answer : Answer) (after : Hierarchy Lent) (rest : List ℕ) where
-    pub does_map_to : (q : List ℕ) (frame given : ℕ) → DoesMap h supply (MapToWithTableFlags q frame given (parent_part given)) answer after rest → DoesMap h supply (MapTo q frame given) answer after rest
-    does_map_to q frame given does = record { outcome = does.outcome; fits = does.fits; others = does.others; walks = does.walks; layout = does.layout; lent = does.lent }
-
-    -- an `identity_map` does what a `map_to` of the page at the frame's address does
-    pub does_map_identity : (level frame given : ℕ) → DoesMap h supply (MapTo (path_at h.layout.levels level frame) frame given) answer after rest → DoesMap h supply (IdentityMap level frame given) answer after rest
-    does_map_identity level frame given does = record { outcome = does.outcome; fits = does.fits; others = does.others; walks = does.walks; layout = does.layout; lent = does.lent }
+  pub may_map_to : (level page frame given : ℕ) → MayMap h supply (MapTo level page frame given) → MayMap h supply (MapToWithTableFlags level page frame given (parent_part given))
+  may_map_to level page frame given may = record { fits = may.fits; allowed = may.allowed }
 
   -- by the map rule
   pub does_map : (q : List ℕ) (frame given more : ℕ) (answer : Answer) (n : Memory) (rest : List ℕ) → MapsPage h.layout h.memory supply q frame given more answer n rest
-      → DoesMap h supply (MapToWithTableFlags q frame given more) answer (record h { memory = n }) rest
+      → MapsPath h supply q frame given more answer (record h { memory = n }) rest
   does_map q frame given more answer n rest mapped = record {
     outcome = ap Some mapped.outcome;
     fits = mapped.ready;
@@ -49,31 +41,31 @@ module _ {Lent : Type 0} (h : Hierarchy Lent) (supply : List ℕ) where
   pub map_leads : (call : Call) (answer : Answer) (after : Hierarchy Lent) (rest : List ℕ)
       → map_outcome h.layout.levels h.layout.added_flags (paths h) supply call ≡ Some (record { paths = paths after; supply = rest; answer = answer }) → Steps h supply call answer after rest
   unfolding do_call
-  map_leads (MapTo q frame given) answer after rest is = λ take_back. ap after_map (same_Some _ _ is)
-  map_leads (MapToWithTableFlags q frame given more) answer after rest is = λ take_back. ap after_map (same_Some _ _ is)
+  map_leads (MapTo level page frame given) answer after rest is = λ take_back. ap after_map (same_Some _ _ is)
+  map_leads (MapToWithTableFlags level page frame given more) answer after rest is = λ take_back. ap after_map (same_Some _ _ is)
   map_leads (IdentityMap level frame given) answer after rest is = λ take_back. ap after_map (same_Some _ _ is)
-  map_leads (Unmap q) answer after rest is = cc
-  map_leads (UpdateFlags q given) answer after rest is = cc
-  map_leads (SetFlags level q given) answer after rest is = cc
-  map_leads (TranslatePage q) answer after rest is = cc
+  map_leads (Unmap level page) answer after rest is = cc
+  map_leads (UpdateFlags level page given) answer after rest is = cc
+  map_leads (SetFlags at level page given) answer after rest is = cc
+  map_leads (TranslatePage level page) answer after rest is = cc
   map_leads (Translate p) answer after rest is = cc
   map_leads (TranslateAddress p) answer after rest is = cc
   map_leads (CleanUp low high) answer after rest is = cc
 
   -- a map that is allowed is an allowed call
   pub map_allows : (call : Call) → allows_map_call h call ≡ true → allows h call ≡ true
-  map_allows (MapTo q frame given) is = is
-  map_allows (MapToWithTableFlags q frame given more) is = is
+  map_allows (MapTo level page frame given) is = is
+  map_allows (MapToWithTableFlags level page frame given more) is = is
   map_allows (IdentityMap level frame given) is = is
-  map_allows (Unmap q) is = cc
-  map_allows (UpdateFlags q given) is = cc
-  map_allows (SetFlags level q given) is = cc
-  map_allows (TranslatePage q) is = cc
+  map_allows (Unmap level page) is = cc
+  map_allows (UpdateFlags level page given) is = cc
+  map_allows (SetFlags at level page given) is = cc
+  map_allows (TranslatePage level page) is = cc
   map_allows (Translate p) is = cc
   map_allows (TranslateAddress p) is = cc
   map_allows (CleanUp low high) is = cc
 
-  pub is_mapped : (q : List ℕ) (frame given more : ℕ) (answer : Answer) (after : Hierarchy Lent) (rest : List ℕ) → DoesMap h supply (MapToWithTableFlags q frame given more) answer after rest
+  pub is_mapped : (q : List ℕ) (frame given more : ℕ) (answer : Answer) (after : Hierarchy Lent) (rest : List ℕ) → MapsPath h supply q frame given more answer after rest
       → MapsPage h.layout h.memory supply q frame given more answer after.memory rest
   is_mapped q frame given more answer after rest does = record {
     outcome = subst (λ l. map_call h.layout.levels (paths h) supply more h.layout.added_flags q frame given ≡ record { paths = paths (l laid_in after.memory); supply = rest; answer = answer }) does.layout
@@ -85,8 +77,8 @@ module _ {Lent : Type 0} (h : Hierarchy Lent) (supply : List ℕ) where
 
   -- where the processor arrives after a `map_to` with PRESENT
   pub map_arrives : (level start frame given : ℕ) → 1 ≤ level → level ≤ 3 → level ≤ h.layout.levels → start % span level ≡ 0 → address frame ≡ frame → frame % span level ≡ 0
-      → IsParentFlags h.layout.added_flags → (after : Hierarchy Lent) (rest : List ℕ) → MayMap h supply (MapTo (path_at h.layout.levels level start) frame given)
-      → DoesMap h supply (MapToWithTableFlags (path_at h.layout.levels level start) frame given (parent_part given)) (Done frame) after rest → present given ≡ true → ArrivesIn after (span level) start frame given
+      → IsParentFlags h.layout.added_flags → (after : Hierarchy Lent) (rest : List ℕ) → MayMap h supply (MapTo level start frame given)
+      → DoesMap h supply (MapTo level start frame given) (Done frame) after rest → present given ≡ true → ArrivesIn after (span level) start frame given
   map_arrives level start frame given low high levels multiple is_frame aligned adds after rest may does is_present =
       let mapped = is_mapped (path_at h.layout.levels level start) frame given (parent_part given) (Done frame) after rest does in
       let arrives = arrives_in_page h.layout level start frame given low high levels multiple is_frame aligned adds h.memory supply after.memory rest may.fits may.allowed mapped is_present in
@@ -135,13 +127,13 @@ module _ {Lent : Type 0} (h : Hierarchy Lent) where
   pub change_leads : (call : Call) (answer : Answer) (after : Hierarchy Lent) → change_outcome h.layout.levels h.layout.window (paths h) call ≡ Some (record { paths = paths after; answer = answer })
       → (pool : List ℕ) → Steps h pool call answer after pool
   unfolding do_call
-  change_leads (Unmap q) answer after is = λ pool take_back. ap (after_change pool) (same_Some _ _ is)
-  change_leads (UpdateFlags q given) answer after is = λ pool take_back. ap (after_change pool) (same_Some _ _ is)
-  change_leads (SetFlags level q given) answer after is = λ pool take_back. ap (after_change pool) (same_Some _ _ is)
-  change_leads (MapTo q frame given) answer after is = cc
-  change_leads (MapToWithTableFlags q frame given more) answer after is = cc
+  change_leads (Unmap level page) answer after is = λ pool take_back. ap (after_change pool) (same_Some _ _ is)
+  change_leads (UpdateFlags level page given) answer after is = λ pool take_back. ap (after_change pool) (same_Some _ _ is)
+  change_leads (SetFlags at level page given) answer after is = λ pool take_back. ap (after_change pool) (same_Some _ _ is)
+  change_leads (MapTo level page frame given) answer after is = cc
+  change_leads (MapToWithTableFlags level page frame given more) answer after is = cc
   change_leads (IdentityMap level frame given) answer after is = cc
-  change_leads (TranslatePage q) answer after is = cc
+  change_leads (TranslatePage level page) answer after is = cc
   change_leads (Translate p) answer after is = cc
   change_leads (TranslateAddress p) answer after is = cc
   change_leads (CleanUp low high) answer after is = cc
@@ -153,10 +145,10 @@ module _ {Lent : Type 0} (h : Hierarchy Lent) where
   clean_up_leads take_back held low high after rest cleans =
       ap₂ (λ M pool. record { state = record { paths = M; pool = pool }; reply = Cleaned }) (sym cleans.outcome) (sym cleans.returned)
 
-  changed : (call : Call) (after : AfterChange) → change_outcome h.layout.levels h.layout.window (paths h) call ≡ Some after
-      → (answer : Answer) (n : Memory) → answer ≡ after.answer → IsChanged h.layout h.memory after n → (refuses answer ≡ true → n ≡ h.memory) → Does h call answer (record h { memory = n })
-  changed call after rule answer n is does still = record {
-    outcome = rule ∙ ap₂ (λ M a. Some (record { paths = M; answer = a })) does.meant (sym is);
+  changed : (rule : AfterChange) (answer : Answer) (n : Memory) → answer ≡ rule.answer → IsChanged h.layout h.memory rule n → (refuses answer ≡ true → n ≡ h.memory)
+      → ChangesBy h rule answer (record h { memory = n })
+  changed rule answer n is does still = record {
+    outcome = ap₂ (λ M a. Some (record { paths = M; answer = a })) does.meant (sym is);
     valid = does.valid;
     fits = does.ready;
     others = does.others;
@@ -166,26 +158,27 @@ module _ {Lent : Type 0} (h : Hierarchy Lent) where
   }
 
   pub does_unmap : (q : List ℕ) (answer : Answer) (n : Memory) → answer ≡ (after_unmap h.layout h.memory q).answer → IsChanged h.layout h.memory (after_unmap h.layout h.memory q) n
-      → (refuses answer ≡ true → n ≡ h.memory) → Does h (Unmap q) answer (record h { memory = n })
-  does_unmap q = changed (Unmap q) (after_unmap h.layout h.memory q) refl
+      → (refuses answer ≡ true → n ≡ h.memory) → ChangesBy h (after_unmap h.layout h.memory q) answer (record h { memory = n })
+  does_unmap q = changed (after_unmap h.layout h.memory q)
 
   -- from why a change of flags is refused, if it is
   pub does_update : (q : List ℕ) (given : ℕ) (why : Option Refusal) (n : Memory) → why ≡ refusal_of (after_update h.layout h.memory q given).answer
-      → IsChanged h.layout h.memory (after_update h.layout h.memory q given) n → (refuses (answer_unless why (Done (named h (UpdateFlags q given)))) ≡ true → n ≡ h.memory)
-      → Does h (UpdateFlags q given) (answer_unless why (Done (named h (UpdateFlags q given)))) (record h { memory = n })
+      → IsChanged h.layout h.memory (after_update h.layout h.memory q given) n → (refuses (answer_unless why (Done (address (read_entry h q)))) ≡ true → n ≡ h.memory)
+      → ChangesBy h (after_update h.layout h.memory q given) (answer_unless why (Done (address (read_entry h q)))) (record h { memory = n })
   does_update q given why n is =
-      let frame = named h (UpdateFlags q given) in
+      let frame = address (read_entry h q) in
       let after = after_update h.layout h.memory q given in
-      changed (UpdateFlags q given) after refl (answer_unless why (Done frame)) n
+      changed after (answer_unless why (Done frame)) n
       (answer_told after.answer frame why (update_done h.layout.levels (read_entry h) (paths h) q given) is)
 
   pub does_set_flags : (level : ℕ) (q : List ℕ) (given : ℕ) (why : Option Refusal) (n : Memory) → why ≡ refusal_of (after_set_flags h.layout h.memory level q given).answer
-      → IsChanged h.layout h.memory (after_set_flags h.layout h.memory level q given) n → (refuses (answer_unless why (Done (named h (SetFlags level q given)))) ≡ true → n ≡ h.memory)
-      → Does h (SetFlags level q given) (answer_unless why (Done (named h (SetFlags level q given)))) (record h { memory = n })
+      → IsChanged h.layout h.memory (after_set_flags h.layout h.memory level q given) n
+      → (refuses (answer_unless why (Done (address (read_entry h (front_at h.layout.levels level q))))) ≡ true → n ≡ h.memory)
+      → ChangesBy h (after_set_flags h.layout h.memory level q given) (answer_unless why (Done (address (read_entry h (front_at h.layout.levels level q))))) (record h { memory = n })
   does_set_flags level q given why n is =
-      let frame = named h (SetFlags level q given) in
+      let frame = address (read_entry h (front_at h.layout.levels level q)) in
       let after = after_set_flags h.layout h.memory level q given in
-      changed (SetFlags level q given) after refl (answer_unless why (Done frame)) n
+      changed after (answer_unless why (Done frame)) n
       (answer_told after.answer frame why (set_flags_done h.layout.levels (read_entry h) (paths h) level q given) is)
 
 -- ---- steps of the machine

@@ -65,9 +65,9 @@ module _ (m : Machine) (is : IsMachine m) (root : ℕ) (serves : ℕ → Bool) (
   frames : AllByRecursion IsFrame s.pool
   frames = all_in s.pool sound.frames
 
-  pub step_is : step m s (map_call_of m.levels x) ≡ after_map after
+  pub step_is : step m s (map_call_of x) ≡ after_map after
   unfolding do_call
-  step_is = ap (λ b. if b then do_call m s (map_call_of m.levels x) else only_reply s NotAllowed) may.allowed
+  step_is = ap (λ b. if b then do_call m s (map_call_of x) else only_reply s NotAllowed) may.allowed
 
   pub sound_after : IsSound m.levels m.window root serves (after_map after).state
   sound_after = sound_map m.levels m.window root serves s sound more m.added_flags is.adds q x.frame x.flags (page_at_level m.levels x.level x.page may.low may.high may.levels) parts
@@ -121,12 +121,12 @@ module _ (m : Machine) (is : IsMachine m) (root : ℕ) (serves : ℕ → Bool) (
 
 pub all_accepted : (m : Machine) → IsMachine m → (root : ℕ) (serves : ℕ → Bool) (xs : List PageMapping) (s : State) → IsSound m.levels m.window root serves s
     → AllByRecursion (IsMappable m s.paths) xs → EachApart xs → (ts : List (List ℕ)) → AllByRecursion (HasMissing m.levels s.paths ts) xs → missing s.paths ts ≤ length s.pool
-    → replies_of m s (map_calls m.levels xs) ≡ map accepted xs
+    → replies_of m s (map_calls xs) ≡ map accepted xs
 all_accepted m is root serves [] s sound may apart ts among enough = refl
 all_accepted m is root serves (x ∷ xs) s sound may apart ts among enough =
     let one = is_accepted m is root serves s sound x may.0 ts among.0 enough in
     let now = after m is root serves s sound x may.0 in
-    subst (λ (a : AfterCall). a.reply ∷ replies_of m a.state (map_calls m.levels xs) ≡ accepted x ∷ map accepted xs) (sym (step_is m is root serves s sound x may.0))
+    subst (λ (a : AfterCall). a.reply ∷ replies_of m a.state (map_calls xs) ≡ accepted x ∷ map accepted xs) (sym (step_is m is root serves s sound x may.0))
     (ap₂ (λ a rs. Answered a ∷ rs) one.0
     (all_accepted m is root serves xs (after_map now).state (sound_after m is root serves s sound x may.0)
     (all_both _ _ (IsMappable m now.paths) (λ y its its_apart. still_mappable m is root serves s sound x may.0 y its its_apart) xs may.1 apart.0) apart.1 ts

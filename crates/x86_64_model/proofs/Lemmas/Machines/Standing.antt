@@ -1,6 +1,6 @@
 -- Pages that stand in the hierarchy that a mapper owns, before and after a `map_to`.
 use Rattle.std.proofs.Common.{◌≡◌, ◌≢◌, ◌⊎◌, inl, inr, ◌<◌, ◌≤◌, ◌+◌, ◌-◌, ◌%◌, ℕ, true, false, List, length, take, Some, sym, ap, ◌∙◌, subst, arith}
-use Rattle.x86_64_model.specs.Call.{MapTo, MapToWithTableFlags}
+use Rattle.x86_64_model.specs.Call.{MapTo}
 use Rattle.x86_64_model.specs.Entry.{IsParentFlags, present, address, writable, user}
 use Rattle.x86_64_model.specs.Layout.{Layout}
 use Rattle.x86_64_model.specs.MapRule.{AfterMap, map_call, parent_part}
@@ -26,16 +26,13 @@ arrives_where_stands h level page frame given valid outside multiple stands offs
     ∙ ap (λ o. Some (record { address = frame + o; write = writable given; user = user given })) front.1
 
 module _ {Lent : Type 0} (h after : Hierarchy Lent) (supply rest : List ℕ) (level page frame given : ℕ) (answer : Answer) (low : 1 ≤ level) (levels : level ≤ h.layout.levels)
-    (may : MayMap h supply (MapTo (path_of h level page) frame given)) (does : DoesMap h supply (MapTo (path_of h level page) frame given) answer after rest) where
+    (may : MayMap h supply (MapTo level page frame given)) (does : DoesMap h supply (MapTo level page frame given) answer after rest) where
   long : length (path_of h level page) ≡ h.layout.levels + 1 - level
   long = length_taken page (h.layout.levels + 1 - level) h.layout.levels (omega (arith, low))
 
-  with_flags : DoesMap h supply (MapToWithTableFlags (path_of h level page) frame given (parent_part given)) answer after rest
-  with_flags = record { outcome = does.outcome; fits = does.fits; others = does.others; walks = does.walks; layout = does.layout; lent = does.lent }
-
   outcome : map_call h.layout.levels (paths h) supply (parent_part given) h.layout.added_flags (path_of h level page) frame given
       ≡ record { paths = paths (h.layout laid_in after.memory); supply = rest; answer = answer }
-  outcome = (is_mapped h supply (path_of h level page) frame given (parent_part given) answer after rest with_flags).outcome
+  outcome = (is_mapped h supply (path_of h level page) frame given (parent_part given) answer after rest does).outcome
 
   may_parts : MapMay h.layout.window (paths h) (path_of h level page) given (parent_part given)
   may_parts = map_may h.layout.levels h.layout.window (paths h) (path_of h level page) given (parent_part given) may.allowed

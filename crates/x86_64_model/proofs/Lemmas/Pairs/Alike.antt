@@ -18,7 +18,7 @@ use Rattle.x86_64_model.specs.Alike.{Alike, names_index}
 use Rattle.x86_64_model.proofs.Lemmas.Maps.Frames.{IsFrame}
 use Rattle.x86_64_model.proofs.Lemmas.Hierarchies.Trees.{IsTree}
 use Rattle.x86_64_model.proofs.Lemmas.Maps.Trees.{parents_begin}
-use Rattle.x86_64_model.proofs.Lemmas.Machines.Effects.{page_at_level, map_may, MapMay, machine}
+use Rattle.x86_64_model.proofs.Lemmas.Machines.Effects.{page_of_level, map_may, MapMay, machine}
 use Rattle.x86_64_model.proofs.Lemmas.Maps.Arrives.{entry_outside, first_alone}
 use Rattle.x86_64_model.proofs.Lemmas.Machines.States.{IsSound, step_sound, all_in}
 use Rattle.x86_64_model.specs.Laws.Steps.{AllCalls}
@@ -70,19 +70,19 @@ module _ (L : ℕ) (v w : Option Window) (M N : PathMap) (alike : Alike L M N) w
       && (present more || none_among M N (parents q) (every _ (like L M N alike) (parents q)) i) && not ((b ∙ sym a) i)
 
   pub allowed_same : (call : Call) → IsCall L call → names_index L v call ≡ false → names_index L w call ≡ false → allowed L w N call ≡ allowed L v M call
-  allowed_same (MapTo q frame given) is a b = map_allowed_same q given _ a b
-  allowed_same (MapToWithTableFlags q frame given more) is a b = map_allowed_same q given more a b
+  allowed_same (MapTo level page frame given) is a b = let q = path_at L level page in map_allowed_same q given _ a b
+  allowed_same (MapToWithTableFlags level page frame given more) is a b = let q = path_at L level page in map_allowed_same q given more a b
   allowed_same (IdentityMap level frame given) is a b = by (nat_lt frame (lower_half L)) a b
     where
       by : (low : Bool) → (low && begins_with v (path_at L level frame)) ≡ false → (low && begins_with w (path_at L level frame)) ≡ false
           → (low && map_allowed L w N (path_at L level frame) given (parent_part given)) ≡ (low && map_allowed L v M (path_at L level frame) given (parent_part given))
       by true a b = map_allowed_same (path_at L level frame) given _ a b
       by false a b = refl
-  allowed_same (Unmap q) is a b = λ i. not ((b ∙ sym a) i)
-  allowed_same (UpdateFlags q given) is a b = λ i. no_address given && not ((b ∙ sym a) i)
-  allowed_same (SetFlags level q given) is a b = let low = is.0 in let top = is.1 in let r = front_read (L + 1 - level) q (omega arith) is.2 a b in let s = set_alike L (entry_at v M) (entry_at w N) M N alike level q given r in
-      λ i. no_address given && not ((b ∙ sym a) i) && cond (nat_lt 3 level) (not (huge given)) (refuses (sym s.answer i) || both_or_none (huge given) (r.at.same_huge i))
-  allowed_same (TranslatePage q) is a b = refl
+  allowed_same (Unmap level page) is a b = λ i. not ((b ∙ sym a) i)
+  allowed_same (UpdateFlags level page given) is a b = λ i. no_address given && not ((b ∙ sym a) i)
+  allowed_same (SetFlags at level page given) is a b = let q = path_at L level page in let low = is.0 in let top = is.1 in let r = front_read (L + 1 - at) q (omega arith) (page_of_level L level page is.2) a b in let s = set_alike L (entry_at v M) (entry_at w N) M N alike at q given r in
+      λ i. no_address given && not ((b ∙ sym a) i) && cond (nat_lt 3 at) (not (huge given)) (refuses (sym s.answer i) || both_or_none (huge given) (r.at.same_huge i))
+  allowed_same (TranslatePage level page) is a b = refl
   allowed_same (Translate p) is a b = refl
   allowed_same (TranslateAddress p) is a b = refl
   allowed_same (CleanUp low high) is a b = refl
@@ -102,13 +102,13 @@ module _ (L : ℕ) (v w : Option Window) (M N : PathMap) (alike : Alike L M N) w
     do_pair : (call : Call) → IsCall L call → names_index L v call ≡ false → names_index L w call ≡ false → allowed L v M call ≡ true
         → AlikeResults L (do_call (machine L v added take_back) (record { paths = M; pool = pool }) call) (do_call (machine L w added' take_back) (record { paths = N; pool = pool }) call)
     unfolding do_call
-    do_pair (MapTo q frame given) is a b h = map_results q frame given (parent_part given) is (map_may L v M q given _ h)
-    do_pair (MapToWithTableFlags q frame given more) is a b h = map_results q frame given more is (map_may L v M q given more h)
-    do_pair (IdentityMap level frame given) is a b h = map_results (path_at L level frame) frame given (parent_part given) (page_at_level L level frame is.0 is.1 is.2) (map_may L v M (path_at L level frame) given _ (and_parts _ _ h).1)
-    do_pair (Unmap q) is a b h = change_results _ _ (unmap_alike L (entry_at v M) (entry_at w N) M N alike q (page_read q is a b))
-    do_pair (UpdateFlags q given) is a b h = change_results _ _ (update_alike L (entry_at v M) (entry_at w N) M N alike q (page_read q is a b) given)
-    do_pair (SetFlags level q given) is a b h = let low = is.0 in let top = is.1 in change_results _ _ (set_alike L (entry_at v M) (entry_at w N) M N alike level q given (front_read (L + 1 - level) q (omega arith) is.2 a b))
-    do_pair (TranslatePage q) is a b h = record { paths = alike; pools = refl; replies = ap Answered (sym (page_alike L (entry_at v M) (entry_at w N) M N alike q (page_read q is a b))) }
+    do_pair (MapTo level page frame given) is a b h = let q = path_at L level page in map_results q frame given (parent_part given) (page_of_level L level page is) (map_may L v M q given _ h)
+    do_pair (MapToWithTableFlags level page frame given more) is a b h = let q = path_at L level page in map_results q frame given more (page_of_level L level page is) (map_may L v M q given more h)
+    do_pair (IdentityMap level frame given) is a b h = map_results (path_at L level frame) frame given (parent_part given) (page_of_level L level frame is) (map_may L v M (path_at L level frame) given _ (and_parts _ _ h).1)
+    do_pair (Unmap level page) is a b h = let q = path_at L level page in change_results _ _ (unmap_alike L (entry_at v M) (entry_at w N) M N alike q (page_read q (page_of_level L level page is) a b))
+    do_pair (UpdateFlags level page given) is a b h = let q = path_at L level page in change_results _ _ (update_alike L (entry_at v M) (entry_at w N) M N alike q (page_read q (page_of_level L level page is) a b) given)
+    do_pair (SetFlags at level page given) is a b h = let q = path_at L level page in let low = is.0 in let top = is.1 in change_results _ _ (set_alike L (entry_at v M) (entry_at w N) M N alike at q given (front_read (L + 1 - at) q (omega arith) (page_of_level L level page is.2) a b))
+    do_pair (TranslatePage level page) is a b h = let q = path_at L level page in record { paths = alike; pools = refl; replies = ap Answered (sym (page_alike L (entry_at v M) (entry_at w N) M N alike q (page_read q (page_of_level L level page is) a b))) }
     do_pair (Translate p) is a b h = record { paths = alike; pools = refl; replies = ap Position (translate_same p a b) }
     do_pair (TranslateAddress p) is a b h = record { paths = alike; pools = refl; replies = ap (λ t. Address (address_of t)) (translate_same p a b) }
     do_pair (CleanUp low high) is a b h = record { paths = clean_alike L root root' M N tree tree' alike low high; pools = ap (with_returned take_back pool) (sym (back_same L root root' M N tree tree' alike low high)); replies = refl }

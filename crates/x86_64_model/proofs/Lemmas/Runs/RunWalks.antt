@@ -55,11 +55,11 @@ module _ (m : Machine) (s : State) (V U : Words) (root more : ℕ) where
 
   done_keeps : (call : Call) → allowed m.levels m.window s.paths call ≡ true → parent_flags_of call ≡ Some more → Kept (do_call m s call).state.paths
   unfolding do_call
-  done_keeps (MapTo q frame given) h is =
+  done_keeps (MapTo level page frame given) h is = let q = path_at m.levels level page in
       let same : parent_part given ≡ more = cc in
       λ before after p. subst (λ f. Arrives f (page_walk m.levels V root p) (page_walk m.levels U root p)) same
       (map_call_keeps_walks m.levels m.window V U root s.paths s.pool (parent_part given) m.added_flags q frame given (map_may m.levels m.window s.paths q given _ h).marks (record { before = before; after = after }) p)
-  done_keeps (MapToWithTableFlags q frame given parent_flags) h is =
+  done_keeps (MapToWithTableFlags level page frame given parent_flags) h is = let q = path_at m.levels level page in
       let same : parent_flags ≡ more = cc in
       λ before after p. subst (λ f. Arrives f (page_walk m.levels V root p) (page_walk m.levels U root p)) same
       (map_call_keeps_walks m.levels m.window V U root s.paths s.pool parent_flags m.added_flags q frame given (map_may m.levels m.window s.paths q given parent_flags h).marks (record { before = before; after = after }) p)
@@ -68,10 +68,10 @@ module _ (m : Machine) (s : State) (V U : Words) (root more : ℕ) where
       λ before after p. subst (λ f. Arrives f (page_walk m.levels V root p) (page_walk m.levels U root p)) same
       (map_call_keeps_walks m.levels m.window V U root s.paths s.pool (parent_part given) m.added_flags (path_at m.levels level frame) frame given
       (map_may m.levels m.window s.paths (path_at m.levels level frame) given _ (and_parts _ _ h).1).marks (record { before = before; after = after }) p)
-  done_keeps (Unmap q) h is = cc
-  done_keeps (UpdateFlags q given) h is = cc
-  done_keeps (SetFlags level q given) h is = cc
-  done_keeps (TranslatePage q) h is = cc
+  done_keeps (Unmap level page) h is = cc
+  done_keeps (UpdateFlags level page given) h is = cc
+  done_keeps (SetFlags at level page given) h is = cc
+  done_keeps (TranslatePage level page) h is = cc
   done_keeps (Translate t) h is = cc
   done_keeps (TranslateAddress t) h is = cc
   done_keeps (CleanUp low high) h is = cc
@@ -116,13 +116,13 @@ module _ (m : Machine) (is : IsMachine m) (s : State) (V U : Words) (root level 
   done_arrives : (call : Call) → allowed m.levels m.window s.paths call ≡ true → mapping_asked m.levels call ≡ Some (q, (frame, given)) → (do_call m s call).reply ≡ Answered (Done frame)
       → IsValidFor m.levels m.window V root s.paths → IsValidFor m.levels m.window U root (do_call m s call).state.paths → Arrived
   unfolding do_call
-  done_arrives (MapTo r f g) h asked accepted = asked_arrives (r, (f, g)) (same_Some _ _ asked) h (answered accepted)
+  done_arrives (MapTo level page f g) h asked accepted = let r = path_at m.levels level page in asked_arrives (r, (f, g)) (same_Some _ _ asked) h (answered accepted)
   done_arrives (IdentityMap n f g) h asked accepted = asked_arrives (path_at m.levels n f, (f, g)) (same_Some _ _ asked) (and_parts _ _ h).1 (answered accepted)
-  done_arrives (MapToWithTableFlags r f g more) h asked accepted = cc
-  done_arrives (Unmap r) h asked accepted = cc
-  done_arrives (UpdateFlags r g) h asked accepted = cc
-  done_arrives (SetFlags n r g) h asked accepted = cc
-  done_arrives (TranslatePage r) h asked accepted = cc
+  done_arrives (MapToWithTableFlags level page f g more) h asked accepted = cc
+  done_arrives (Unmap level page) h asked accepted = cc
+  done_arrives (UpdateFlags level page g) h asked accepted = cc
+  done_arrives (SetFlags at level page g) h asked accepted = cc
+  done_arrives (TranslatePage level page) h asked accepted = cc
   done_arrives (Translate t) h asked accepted = cc
   done_arrives (TranslateAddress t) h asked accepted = cc
   done_arrives (CleanUp low high) h asked accepted = cc

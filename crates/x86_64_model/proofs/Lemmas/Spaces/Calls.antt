@@ -22,7 +22,7 @@ use Rattle.x86_64_model.proofs.Lemmas.CleanUps.Removed.{removed_gives, in_range_
 use Rattle.x86_64_model.proofs.Lemmas.Hierarchies.Trees.{IsTree, IsHierarchy}
 use Rattle.x86_64_model.proofs.Lemmas.Lists.All.{all_mapped}
 use Rattle.x86_64_model.proofs.Lemmas.Machines.Changes.{unmap_change, update_change, set_flags_change}
-use Rattle.x86_64_model.proofs.Lemmas.Machines.Effects.{machine, map_may, page_at_level, step_cases}
+use Rattle.x86_64_model.proofs.Lemmas.Machines.Effects.{machine, map_may, page_of_level, step_cases}
 use Rattle.x86_64_model.proofs.Lemmas.Machines.Fitting.{sound_of_fits}
 use Rattle.x86_64_model.proofs.Lemmas.Machines.States.{IsSound, step_sound}
 use Rattle.x86_64_model.proofs.Lemmas.Maps.Accepted.{map_leaves, added_there}
@@ -84,15 +84,15 @@ module _ (shared : ℕ → Bool) (L : ℕ) (window : Option Window) (root added 
 
   done_avoids : (call : Call) → IsCall L call → allowed L window s.paths call ≡ true → Avoids L shared call → Same (do_call (machine L window added take_back) s call).state.paths
   unfolding do_call
-  done_avoids (MapTo q frame given) is h off = maps_avoid q frame given (parent_part given) off
-  done_avoids (MapToWithTableFlags q frame given more) is h off = maps_avoid q frame given more off
+  done_avoids (MapTo level page frame given) is h off = let q = path_at L level page in maps_avoid q frame given (parent_part given) off
+  done_avoids (MapToWithTableFlags level page frame given more) is h off = let q = path_at L level page in maps_avoid q frame given more off
   done_avoids (IdentityMap level frame given) is h off = maps_avoid (path_at L level frame) frame given (parent_part given) off
-  done_avoids (Unmap q) is h off = unmap_change L window s.paths q is (not-true _ h) (λ c. Same c.paths) (λ why. refl) (λ c. put_avoids q _ off)
-  done_avoids (UpdateFlags q given) is h off = update_change L window s.paths q is (not-true _ (and_parts _ _ h).1) given (λ c. Same c.paths) (λ why. refl) (λ c. put_avoids q _ off)
-  done_avoids (SetFlags level q given) is h off = let a = and_parts _ _ h in let b = and_parts _ _ a.0 in let top = is.1 in
-      set_flags_change L window root s.paths hierarchy level q given is.0 is.1 is.2 (not-true _ b.1) b.0 a.1 (λ c. Same c.paths) (λ why. refl)
-      (λ c. put_avoids _ _ (front_shared shared (L + 1 - level) q (omega (arith, top)) off))
-  done_avoids (TranslatePage q) is h off = refl
+  done_avoids (Unmap level page) is h off = let q = path_at L level page in unmap_change L window s.paths q (page_of_level L level page is) (not-true _ h) (λ c. Same c.paths) (λ why. refl) (λ c. put_avoids q _ off)
+  done_avoids (UpdateFlags level page given) is h off = let q = path_at L level page in update_change L window s.paths q (page_of_level L level page is) (not-true _ (and_parts _ _ h).1) given (λ c. Same c.paths) (λ why. refl) (λ c. put_avoids q _ off)
+  done_avoids (SetFlags at level page given) is h off = let q = path_at L level page in let a = and_parts _ _ h in let b = and_parts _ _ a.0 in let top = is.1 in
+      set_flags_change L window root s.paths hierarchy at q given is.0 is.1 (page_of_level L level page is.2) (not-true _ b.1) b.0 a.1 (λ c. Same c.paths) (λ why. refl)
+      (λ c. put_avoids _ _ (front_shared shared (L + 1 - at) q (omega (arith, top)) off))
+  done_avoids (TranslatePage level page) is h off = refl
   done_avoids (Translate p) is h off = refl
   done_avoids (TranslateAddress p) is h off = refl
   done_avoids (CleanUp low high) is h off = clean_up_avoids shared L s.paths low high off r on
@@ -169,19 +169,19 @@ module _ (shared : ℕ → Bool) (L : ℕ) (four : 3 < L) (window : Option Windo
 
   done_spares : (call : Call) → IsCall L call → allowed L window s.paths call ≡ true → LeavesRootEntry L shared E call → Kept (do_call (machine L window added take_back) s call).state.paths
   unfolding do_call
-  done_spares (MapTo q frame given) is h spares = maps_spare q frame given (parent_part given) is (map_may L window s.paths q given _ h).parents spares
-  done_spares (MapToWithTableFlags q frame given more) is h spares = maps_spare q frame given more is (map_may L window s.paths q given _ h).parents spares
-  done_spares (IdentityMap level frame given) is h spares = maps_spare (path_at L level frame) frame given (parent_part given) (page_at_level L level frame is.0 is.1 is.2)
+  done_spares (MapTo level page frame given) is h spares = let q = path_at L level page in maps_spare q frame given (parent_part given) (page_of_level L level page is) (map_may L window s.paths q given _ h).parents spares
+  done_spares (MapToWithTableFlags level page frame given more) is h spares = let q = path_at L level page in maps_spare q frame given more (page_of_level L level page is) (map_may L window s.paths q given _ h).parents spares
+  done_spares (IdentityMap level frame given) is h spares = maps_spare (path_at L level frame) frame given (parent_part given) (page_of_level L level frame is)
       (map_may L window s.paths (path_at L level frame) given _ (and_parts _ _ h).1).parents spares
-  done_spares (Unmap q) is h spares = unmap_change L window s.paths q is (not-true _ h) (λ c. Kept c.paths) (λ why. refl) (λ c. put_longer q _ is)
-  done_spares (UpdateFlags q given) is h spares = update_change L window s.paths q is (not-true _ (and_parts _ _ h).1) given (λ c. Kept c.paths) (λ why. refl) (λ c. put_longer q _ is)
-  done_spares (SetFlags level q given) is h spares = let a = and_parts _ _ h in let b = and_parts _ _ a.0 in let top = is.1 in let page = is.2 in let least = page.at_least in
-      set_flags_change L window root s.paths hierarchy level q given is.0 is.1 is.2 (not-true _ b.1) b.0 a.1 (λ c. Kept c.paths) (λ why. refl)
-      (λ c. entry-put_other s.paths (take (L + 1 - level) q) _ (i ∷ []) (⊎_elim
-      (λ mine e. let lower = spares mine in two_indices (L + 1 - level) q i (omega (arith, lower)) (omega (arith, least, four)) (sym e))
-      (λ off. differ shared (i ∷ []) (take (L + 1 - level) q) on (front_shared shared (L + 1 - level) q (omega (arith, top)) off))
+  done_spares (Unmap level page) is h spares = let q = path_at L level page in unmap_change L window s.paths q (page_of_level L level page is) (not-true _ h) (λ c. Kept c.paths) (λ why. refl) (λ c. put_longer q _ (page_of_level L level page is))
+  done_spares (UpdateFlags level page given) is h spares = let q = path_at L level page in update_change L window s.paths q (page_of_level L level page is) (not-true _ (and_parts _ _ h).1) given (λ c. Kept c.paths) (λ why. refl) (λ c. put_longer q _ (page_of_level L level page is))
+  done_spares (SetFlags at level page given) is h spares = let q = path_at L level page in let a = and_parts _ _ h in let b = and_parts _ _ a.0 in let top = is.1 in let is_page = page_of_level L level page is.2 in let least = is_page.at_least in
+      set_flags_change L window root s.paths hierarchy at q given is.0 is.1 is_page (not-true _ b.1) b.0 a.1 (λ c. Kept c.paths) (λ why. refl)
+      (λ c. entry-put_other s.paths (take (L + 1 - at) q) _ (i ∷ []) (⊎_elim
+      (λ mine e. let lower = spares mine in two_indices (L + 1 - at) q i (omega (arith, lower)) (omega (arith, least, four)) (sym e))
+      (λ off. differ shared (i ∷ []) (take (L + 1 - at) q) on (front_shared shared (L + 1 - at) q (omega (arith, top)) off))
       (cases_Bool (is_shared shared q))))
-  done_spares (TranslatePage q) is h spares = refl
+  done_spares (TranslatePage level page) is h spares = refl
   done_spares (Translate p) is h spares = refl
   done_spares (TranslateAddress p) is h spares = refl
   done_spares (CleanUp low high) is h spares = clean_up_avoids shared L s.paths low high spares (i ∷ []) on

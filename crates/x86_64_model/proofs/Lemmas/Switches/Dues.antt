@@ -3,7 +3,7 @@ use Rattle.std.proofs.Common.{◌≡◌, ◌≢◌, inl, inr, ⊎_elim, ◌≤�
 use Rattle.std.proofs.lemmas.Bool.{cases_Bool}
 use Rattle.x86_64_model.specs.Entry.{no_execute}
 use Rattle.x86_64_model.specs.Lists.{In}
-use Rattle.x86_64_model.specs.Path.{is_small, front_at}
+use Rattle.x86_64_model.specs.Path.{is_small, front_at, path_at}
 use Rattle.x86_64_model.specs.Window.{Window}
 use Rattle.x86_64_model.specs.Refusal.{Done, Refused}
 use Rattle.x86_64_model.specs.Call.{Call, IsCall, MapTo, MapToWithTableFlags, IdentityMap, Unmap, UpdateFlags, SetFlags, TranslatePage, Translate, TranslateAddress, CleanUp, Reply, NotAllowed, Answered, Position, Address, Cleaned}
@@ -14,6 +14,7 @@ use Rattle.x86_64_model.specs.Caches.{PartialWalk, Cached, Table, Page, way_of}
 use Rattle.x86_64_model.specs.Tags.{Tag, Of, Global, TaggedFlush, Invlpg, InvpcidAddress, InvpcidContext, InvpcidAll, InvpcidAllButGlobal, is_current, is_of, is_left, is_settled}
 use Rattle.x86_64_model.specs.Switches.{Switching, is_held, is_concerned, pending, holder_with, due_with}
 use Rattle.x86_64_model.proofs.Lemmas.Lists.Members.{in_left, in_right, in_append, in_filter, from_filter, passes}
+use Rattle.x86_64_model.proofs.Lemmas.Machines.Effects.{page_of_level}
 use Rattle.x86_64_model.proofs.Lemmas.Spaces.Calls.{front_shared}
 use Rattle.x86_64_model.proofs.Lemmas.Caches.Items.{StaysDue}
 
@@ -75,15 +76,15 @@ module _ (shared : ℕ → Bool) (L : ℕ) (window : Option Window) (freed : Lis
 
   -- all items on a path are due after calls that change entries below its first index
   pub made_below : (call : Call) → IsCall L call → (q : List ℕ) → In (flush_after L window freed call reply) (BelowDue q) → Fine call q
-  made_below (MapTo p frame given) is q i = absurd i
-  made_below (MapToWithTableFlags p frame given more) is q i =
-      front_fine (MapToWithTableFlags p frame given more) 1 p q (omega arith) is.nonempty (λ a. a) (in_cond (no_execute more) _ _ (from_allowed reply _ _ i))
+  made_below (MapTo level page frame given) is q i = absurd i
+  made_below (MapToWithTableFlags level page frame given more) is q i = let p = path_at L level page in
+      front_fine (MapToWithTableFlags level page frame given more) 1 p q (omega arith) (page_of_level L level page is).nonempty (λ a. a) (in_cond (no_execute more) _ _ (from_allowed reply _ _ i))
   made_below (IdentityMap level frame given) is q i = absurd i
-  made_below (Unmap p) is q i = let x = from_accepted reply (λ f. page_due L window p f) _ i in absurd (no_page L window p x.0 q x.1)
-  made_below (UpdateFlags p given) is q i = let x = from_accepted reply (λ f. page_due L window p f) _ i in absurd (no_page L window p x.0 q x.1)
-  made_below (SetFlags level p given) is q i = let x = from_accepted reply (λ f. below_due window (front_at L level p)) _ i in let top = is.1 in let page = is.2 in
-      front_fine (SetFlags level p given) (L + 1 - level) p q (omega (arith, top)) page.nonempty (λ a. a) x.1
-  made_below (TranslatePage p) is q i = absurd i
+  made_below (Unmap level page) is q i = let p = path_at L level page in let x = from_accepted reply (λ f. page_due L window p f) _ i in absurd (no_page L window p x.0 q x.1)
+  made_below (UpdateFlags level page given) is q i = let p = path_at L level page in let x = from_accepted reply (λ f. page_due L window p f) _ i in absurd (no_page L window p x.0 q x.1)
+  made_below (SetFlags at level page given) is q i = let p = path_at L level page in let x = from_accepted reply (λ f. below_due window (front_at L at p)) _ i in let top = is.1 in let is_page = page_of_level L level page is.2 in
+      front_fine (SetFlags at level page given) (L + 1 - at) p q (omega (arith, top)) is_page.nonempty (λ a. a) x.1
+  made_below (TranslatePage level page) is q i = absurd i
   made_below (Translate p) is q i = absurd i
   made_below (TranslateAddress p) is q i = absurd i
   made_below (CleanUp low high) is q (inl e) = cc

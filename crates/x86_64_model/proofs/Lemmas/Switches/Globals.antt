@@ -17,7 +17,7 @@ use Rattle.std.proofs.lemmas.Nat.{and_assoc, and_comm}
 use Rattle.x86_64_model.proofs.Lemmas.CleanUps.Keys.{entry-cleaned}
 use Rattle.x86_64_model.proofs.Lemmas.Entries.Bits.{has_or, only_flags, address_address}
 use Rattle.x86_64_model.proofs.Lemmas.Machines.Changes.{unmap_change, update_change, set_flags_change}
-use Rattle.x86_64_model.proofs.Lemmas.Machines.Effects.{map_may, step_cases}
+use Rattle.x86_64_model.proofs.Lemmas.Machines.Effects.{map_may, page_of_level, step_cases}
 use Rattle.x86_64_model.proofs.Lemmas.Machines.Fitting.{sound_of_fits}
 use Rattle.x86_64_model.proofs.Lemmas.Machines.States.{IsSound, all_in, step_sound}
 use Rattle.x86_64_model.proofs.Lemmas.Maps.Accepted.{map_ind}
@@ -127,18 +127,18 @@ module _ (m : Machine) (is : IsMachine m) (less : global m.added_flags ≡ false
 
   done_keeps : (call : Call) → IsCall m.levels call → allowed m.levels m.window s.paths call ≡ true → GlobalIsShared m.levels shared call → Kept (do_call m s call).state.paths
   unfolding do_call
-  done_keeps (MapTo q frame given) c h g = map_kept q frame given (parent_part given) (map_may m.levels m.window s.paths q given _ h).marks (λ off. (g off, part_not_global given))
-  done_keeps (MapToWithTableFlags q frame given more) c h g = map_kept q frame given more (map_may m.levels m.window s.paths q given _ h).marks g
+  done_keeps (MapTo level page frame given) c h g = let q = path_at m.levels level page in map_kept q frame given (parent_part given) (map_may m.levels m.window s.paths q given _ h).marks (λ off. (g off, part_not_global given))
+  done_keeps (MapToWithTableFlags level page frame given more) c h g = let q = path_at m.levels level page in map_kept q frame given more (map_may m.levels m.window s.paths q given _ h).marks g
   done_keeps (IdentityMap level frame given) c h g = map_kept (path_at m.levels level frame) frame given (parent_part given)
       (map_may m.levels m.window s.paths (path_at m.levels level frame) given _ (and_parts _ _ h).1).marks (λ off. (g off, part_not_global given))
-  done_keeps (Unmap q) c h g = unmap_change m.levels m.window s.paths q c (not-true _ h) (λ a. Kept a.paths) (λ why. same_kept) (λ _. put_kept q 0 (λ off. zero_not_global))
-  done_keeps (UpdateFlags q given) c h g = update_change m.levels m.window s.paths q c (not-true _ (and_parts _ _ h).1) given (λ a. Kept a.paths) (λ why. same_kept)
+  done_keeps (Unmap level page) c h g = let q = path_at m.levels level page in unmap_change m.levels m.window s.paths q (page_of_level m.levels level page c) (not-true _ h) (λ a. Kept a.paths) (λ why. same_kept) (λ _. put_kept q 0 (λ off. zero_not_global))
+  done_keeps (UpdateFlags level page given) c h g = let q = path_at m.levels level page in update_change m.levels m.window s.paths q (page_of_level m.levels level page c) (not-true _ (and_parts _ _ h).1) given (λ a. Kept a.paths) (λ why. same_kept)
       (λ _. put_kept q _ (λ off. leaf_plain q (entry s.paths q) given (g off)))
-  done_keeps (SetFlags level q given) c h g = let a = and_parts _ _ h in let b = and_parts _ _ a.0 in let top = c.1 in
-      set_flags_change m.levels m.window root s.paths sound.hierarchy level q given c.0 c.1 c.2 (not-true _ b.1) b.0 a.1 (λ a. Kept a.paths) (λ why. same_kept)
-      (λ _. put_kept (front_at m.levels level q) _ (λ off. only_flags (address (entry s.paths (front_at m.levels level q))) given 0x100 (address_address _) refl ∙ g (⊎_elim
-      (λ on. absurd (let t : true ≡ false = sym (front_of_shared shared (m.levels + 1 - level) q (omega (arith, top)) on) ∙ off in cc)) (λ f. f) (cases_Bool (is_shared shared q)))))
-  done_keeps (TranslatePage q) c h g = same_kept
+  done_keeps (SetFlags at level page given) c h g = let q = path_at m.levels level page in let a = and_parts _ _ h in let b = and_parts _ _ a.0 in let top = c.1 in
+      set_flags_change m.levels m.window root s.paths sound.hierarchy at q given c.0 c.1 (page_of_level m.levels level page c.2) (not-true _ b.1) b.0 a.1 (λ a. Kept a.paths) (λ why. same_kept)
+      (λ _. put_kept (front_at m.levels at q) _ (λ off. only_flags (address (entry s.paths (front_at m.levels at q))) given 0x100 (address_address _) refl ∙ g (⊎_elim
+      (λ on. absurd (let t : true ≡ false = sym (front_of_shared shared (m.levels + 1 - at) q (omega (arith, top)) on) ∙ off in cc)) (λ f. f) (cases_Bool (is_shared shared q)))))
+  done_keeps (TranslatePage level page) c h g = same_kept
   done_keeps (Translate p) c h g = same_kept
   done_keeps (TranslateAddress p) c h g = same_kept
   done_keeps (CleanUp low high) c h g = clean_kept low high
