@@ -2,15 +2,10 @@
 use Rattle.std.specs.Prelude.{◌≡◌, ℕ, Bool, true, Result}
 use Rattle.x86_64_model.specs.Call.{Call}
 use Rattle.x86_64_model.specs.Entry.{present}
-use Rattle.x86_64_model.specs.Hierarchy.{Hierarchy, Does, ArrivesIn, allows, allows_map, named, page_translation, path_of}
-use Rattle.x86_64_model.specs.PageCalls.{PageCall, asked}
+use Rattle.x86_64_model.specs.Hierarchy.{Hierarchy, Does, ArrivesIn, allows_map, named, page_translation, path_of}
 use Rattle.x86_64_model.specs.Refusal.{Answer}
 use Rattle.x86_64_tables.specs.MapperAnswers.{flags_answer}
 use Rattle.x86_64_tables.specs.declared.errors.FlagUpdateError.{FlagUpdateError}
-
--- Whether the hierarchy allows a call on a page of a level: the call's own condition holds.
-abbrev pub allows_call : {Lent : Type 0} → Hierarchy Lent → (level : ℕ) → PageCall → Bool
-allows_call h level call = allows h (asked h level call)
 
 -- Whether the page of a level may be mapped with these flags and parent flags, to any frame.
 abbrev pub allows_page : {Lent : Type 0} → Hierarchy Lent → (level page flags parent_flags : ℕ) → Bool
@@ -20,15 +15,10 @@ allows_page h level page given more = allows_map h (path_of h level page) given 
 abbrev pub translated_page : {Lent : Type 0} → Hierarchy Lent → (level page : ℕ) → Answer
 translated_page h level page = page_translation h (path_of h level page)
 
--- The hierarchy answers a change of flags on a path, and is `after` then. If the change is done, the answer names the frame that
--- the changed entry names.
+-- The hierarchy answers a change of flags, and is `after` then. If the change is done, the answer names the frame that the changed
+-- entry names.
 abbrev pub DoesFlags : {Lent X : Type 0} → Hierarchy Lent → Call → Result X FlagUpdateError → (after : Hierarchy Lent) → Type 0
 DoesFlags h call result after = Does h call (flags_answer (named h call) result) after
-
--- The hierarchy answers a change of flags on the path of a page of a level, and is `after` then. If the change is done, the answer
--- names the frame that the changed entry names.
-abbrev pub AnswersFlags : {Lent X : Type 0} → Hierarchy Lent → (level : ℕ) → PageCall → Result X FlagUpdateError → (after : Hierarchy Lent) → Type 0
-AnswersFlags h level call result after = DoesFlags h (asked h level call) result after
 
 -- If the flags have PRESENT, the page walk at each offset of a page of this size arrives at the frame's start plus the offset, with
 -- exactly the rights of the flags.

@@ -34,13 +34,13 @@ range_page r k = r.page + k * span r.level
 abbrev pub range_frame : MapRange → (k : ℕ) → ℕ
 range_frame r k = r.frame + k * span r.level
 
--- The call that maps page k of a range, counted from 0, to its frame, with L levels of tables.
-abbrev pub map_at : (L : ℕ) → MapRange → (k : ℕ) → Call
-map_at L r k = MapToWithTableFlags (path_at L r.level (range_page r k)) (range_frame r k) r.flags r.parent_flags
+-- The call that maps page k of a range, counted from 0, to its frame.
+abbrev pub map_at : MapRange → (k : ℕ) → Call
+map_at r k = MapToWithTableFlags r.level (range_page r k) (range_frame r k) r.flags r.parent_flags
 
--- The calls that map the first `count` pages of a range, in order, with L levels of tables.
-abbrev pub maps : (L : ℕ) → MapRange → (count : ℕ) → List Call
-maps L r count = map (λ k. map_at L r k) (range_with_len 0 count)
+-- The calls that map the first `count` pages of a range, in order.
+abbrev pub maps : MapRange → (count : ℕ) → List Call
+maps r count = map (λ k. map_at r k) (range_with_len 0 count)
 
 -- The replies of the maps of the first `count` pages of a range, in order, if all of them are done.
 abbrev pub accepted_maps : MapRange → (count : ℕ) → List Reply

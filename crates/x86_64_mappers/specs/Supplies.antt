@@ -2,7 +2,6 @@
 use Rattle.std.specs.Prelude.{◌≡◌, ℕ, Bool, List}
 use Rattle.x86_64_model.specs.Call.{Call}
 use Rattle.x86_64_model.specs.Hierarchy.{Hierarchy, DoesMap}
-use Rattle.x86_64_model.specs.PageCalls.{PageCall, asked}
 use Rattle.x86_64_model.specs.Refusal.{Answer}
 
 -- What an allocator is: the frames that it can hand out, in order, and those that it serves (may hand out and take back).
@@ -19,10 +18,6 @@ abbrev pub supply_of : {Self : Type 0} → AllocatorMembers Self → Self → Su
 supply_of members value = record { frames = members.supply value; serves = members.serves value }
 
 -- The effect of a map that takes the frames of new tables from a supply. It is `rest` then, and serves the same frames.
-pub record DoesMapFrom {Lent : Type 0} (h : Hierarchy Lent) (supply : Supply) (call : Call) (answer : Answer) (after : Hierarchy Lent) (rest : Supply) : Type 0 where
+pub record MapsFrom {Lent : Type 0} (h : Hierarchy Lent) (supply : Supply) (call : Call) (answer : Answer) (after : Hierarchy Lent) (rest : Supply) : Type 0 where
   pub map : DoesMap h supply.frames call answer after rest.frames
   pub serves : rest.serves ≡ supply.serves
-
--- The hierarchy gives this answer to a map on a page of a level. It is `after` then, and the supply is `rest`.
-abbrev pub MapsFrom : {Lent : Type 0} → Hierarchy Lent → Supply → (level : ℕ) → PageCall → Answer → (after : Hierarchy Lent) → (rest : Supply) → Type 0
-MapsFrom h supply level call answer after rest = DoesMapFrom h supply (asked h level call) answer after rest

@@ -2,11 +2,11 @@
 //! [`Translate`](crate::mapper::Translate) and [`CleanUp`](crate::mapper::CleanUp), and those of five levels, call
 //! these. Their documentation says more about each call.
 ghost use Rattle.std.specs.Prelude.{◌≡◌, ◌<◌, ◌≤◌, ◌-◌, IfOk};
-ghost use Rattle.x86_64_model.specs.Hierarchy.{Valid};
+ghost use Rattle.x86_64_model.specs.Call.{MapTo, MapToWithTableFlags, IdentityMap, Unmap, UpdateFlags, SetFlags};
+ghost use Rattle.x86_64_model.specs.Hierarchy.{allows, Does, MayCall, MayMap, Valid};
 ghost use Rattle.x86_64_model.specs.Position.{lower_half, position_count};
-ghost use Rattle.x86_64_model.specs.PageCalls.{MayAsk, MayAskMap, Answers, MapTo, MapToWithTableFlags, IdentityMap, Unmap, UpdateFlags, SetFlags};
 ghost use Rattle.x86_64_mappers.specs.CleanUps.{deallocator_store, MayCleanUpInto, CleansUpInto};
-ghost use Rattle.x86_64_mappers.specs.PageAnswers.{allows_call, allows_page, translated_page, AnswersFlags, ArrivesIfPresent};
+ghost use Rattle.x86_64_mappers.specs.PageAnswers.{allows_page, translated_page, DoesFlags, ArrivesIfPresent};
 ghost use Rattle.x86_64_mappers.specs.Supplies.{MapsFrom, supply_of};
 ghost use Rattle.x86_64_mappers.specs.TablesAbove.{CreatesAbove, tables_refusal};
 ghost use Rattle.x86_64_tables.specs.MapperAnswers.{map_answer, unmap_answer, translate_answer};
@@ -50,10 +50,10 @@ pub fn map_to_with_table_flags<
     parent_flags: PageTableFlags,
     frame_allocator: &mut A,
 ) -> Result<MapperFlushIn<S, L>, MapToError<S>>
-    requires { MayAskMap (M.hierarchy mapper.old) (A.supply frame_allocator.old) S.LEVEL
-        (MapToWithTableFlags page frame (bits_of flags) (bits_of parent_flags)) }
+    requires { MayMap (M.hierarchy mapper.old) (A.supply frame_allocator.old)
+        (MapToWithTableFlags S.LEVEL page frame (bits_of flags) (bits_of parent_flags)) }
     ensures does { MapsFrom (M.hierarchy mapper.old) (supply_of A.FrameAllocator frame_allocator.old)
-        S.LEVEL (MapToWithTableFlags page frame (bits_of flags) (bits_of parent_flags))
+        (MapToWithTableFlags S.LEVEL page frame (bits_of flags) (bits_of parent_flags))
         (map_answer frame result) (M.hierarchy mapper.new)
         (supply_of A.FrameAllocator frame_allocator.new) }
     ensures page { IfOk result (λ flush. flush ≡ page) }
@@ -92,8 +92,8 @@ pub fn create_tables<
     parent_flags: PageTableFlags,
     frame_allocator: &mut A,
 ) -> Result<(), MapToError<S>>
-    requires { MayAskMap (M.hierarchy mapper.old) (A.supply frame_allocator.old) S.LEVEL
-        (MapToWithTableFlags page 0 0 (bits_of parent_flags)) }
+    requires { MayMap (M.hierarchy mapper.old) (A.supply frame_allocator.old)
+        (MapToWithTableFlags S.LEVEL page 0 0 (bits_of parent_flags)) }
     ensures { CreatesAbove (M.hierarchy mapper.old) (supply_of A.FrameAllocator frame_allocator.old)
         S.LEVEL page (bits_of parent_flags) (tables_refusal result)
         (M.hierarchy mapper.new) (supply_of A.FrameAllocator frame_allocator.new) }
@@ -128,10 +128,10 @@ pub fn map_to<
     flags: PageTableFlags,
     frame_allocator: &mut A,
 ) -> Result<MapperFlushIn<S, L>, MapToError<S>>
-    requires { MayAskMap (M.hierarchy mapper.old) (A.supply frame_allocator.old) S.LEVEL
-        (MapTo page frame (bits_of flags)) }
+    requires { MayMap (M.hierarchy mapper.old) (A.supply frame_allocator.old)
+        (MapTo S.LEVEL page frame (bits_of flags)) }
     ensures does { MapsFrom (M.hierarchy mapper.old) (supply_of A.FrameAllocator frame_allocator.old)
-        S.LEVEL (MapTo page frame (bits_of flags)) (map_answer frame result)
+        (MapTo S.LEVEL page frame (bits_of flags)) (map_answer frame result)
         (M.hierarchy mapper.new) (supply_of A.FrameAllocator frame_allocator.new) }
     ensures page { IfOk result (λ flush. flush ≡ page) }
     ensures arrives { IfOk result (λ _.
@@ -157,10 +157,10 @@ pub fn identity_map<
     frame_allocator: &mut A,
 ) -> Result<MapperFlushIn<S, L>, MapToError<S>>
     requires low { frame < lower_half L.LEVELS }
-    requires may { MayAskMap (M.hierarchy mapper.old) (A.supply frame_allocator.old) S.LEVEL
-        (MapTo frame frame (bits_of flags)) }
+    requires may { MayMap (M.hierarchy mapper.old) (A.supply frame_allocator.old)
+        (MapTo S.LEVEL frame frame (bits_of flags)) }
     ensures does { MapsFrom (M.hierarchy mapper.old) (supply_of A.FrameAllocator frame_allocator.old)
-        S.LEVEL (IdentityMap frame (bits_of flags)) (map_answer frame result)
+        (IdentityMap S.LEVEL frame (bits_of flags)) (map_answer frame result)
         (M.hierarchy mapper.new) (supply_of A.FrameAllocator frame_allocator.new) }
     ensures page { IfOk result (λ flush. flush ≡ frame) }
     ensures arrives { IfOk result (λ _.
@@ -201,8 +201,8 @@ pub fn unmap<S: PageSize, L: LevelCount, M: TableAccess + TablesIn<L>>(
     mapper: &mut M,
     page: PageIn<S, L>,
 ) -> Result<(PhysFrame<S>, MapperFlushIn<S, L>), UnmapError>
-    requires { MayAsk (M.hierarchy mapper.old) S.LEVEL (Unmap page) }
-    ensures does { Answers (M.hierarchy mapper.old) S.LEVEL (Unmap page)
+    requires { MayCall (M.hierarchy mapper.old) (Unmap S.LEVEL page) }
+    ensures does { Does (M.hierarchy mapper.old) (Unmap S.LEVEL page)
         (unmap_answer result) (M.hierarchy mapper.new) }
     ensures page { IfOk result (λ unmapped. unmapped.1 ≡ page) }
 {
@@ -219,8 +219,8 @@ pub fn update_flags<S: PageSize, L: LevelCount, M: TableAccess + TablesIn<L>>(
     page: PageIn<S, L>,
     flags: PageTableFlags,
 ) -> Result<MapperFlushIn<S, L>, FlagUpdateError>
-    requires { MayAsk (M.hierarchy mapper.old) S.LEVEL (UpdateFlags page (bits_of flags)) }
-    ensures does { AnswersFlags (M.hierarchy mapper.old) S.LEVEL (UpdateFlags page (bits_of flags))
+    requires { MayCall (M.hierarchy mapper.old) (UpdateFlags S.LEVEL page (bits_of flags)) }
+    ensures does { DoesFlags (M.hierarchy mapper.old) (UpdateFlags S.LEVEL page (bits_of flags))
         result (M.hierarchy mapper.new) }
     ensures page { IfOk result (λ flush. flush ≡ page) }
 {
@@ -241,8 +241,8 @@ pub fn set_table_flags<S: PageSize, L: LevelCount, M: TableAccess + TablesIn<L>>
 ) -> Result<MapperFlushAll, FlagUpdateError>
     requires low { 2 ≤ level }
     requires high { level ≤ L.LEVELS }
-    requires may { MayAsk (M.hierarchy mapper.old) S.LEVEL (SetFlags level page (bits_of flags)) }
-    ensures { AnswersFlags (M.hierarchy mapper.old) S.LEVEL (SetFlags level page (bits_of flags))
+    requires may { MayCall (M.hierarchy mapper.old) (SetFlags level S.LEVEL page (bits_of flags)) }
+    ensures { DoesFlags (M.hierarchy mapper.old) (SetFlags level S.LEVEL page (bits_of flags))
         result (M.hierarchy mapper.new) }
 {
     let path = path_of_page(mapper, page);
@@ -264,7 +264,7 @@ pub fn table_flags_allowed<S: PageSize, L: LevelCount, M: TableAccess + TablesIn
     requires low { 2 ≤ level }
     requires high { level ≤ 3 }
     requires valid { Valid (M.hierarchy mapper.now) }
-    ensures { result ≡ allows_call (M.hierarchy mapper.now) S.LEVEL (SetFlags level page (bits_of flags)) }
+    ensures { result ≡ allows (M.hierarchy mapper.now) (SetFlags level S.LEVEL page (bits_of flags)) }
 {
     let path = path_of_page(mapper, page);
     condition::table_flags_allowed::<S, _>(mapper, path.indices(), level, flags)

@@ -68,11 +68,11 @@ impl<M: TableAccess + PageTables> Translate for M {}
 pub trait Mapper<S: PageSize>: TableAccess + PageTables {
     ghost use Rattle.x86_64_model.specs.Call.{Reply};
     ghost use Rattle.x86_64_model.specs.Entry.{no_address, present};
-    ghost use Rattle.x86_64_model.specs.Hierarchy.{SupplyFits};
-    ghost use Rattle.x86_64_model.specs.PageCalls.{MayAsk, MayAskMap, Answers, MapTo, MapToWithTableFlags, IdentityMap, Unmap, UpdateFlags, SetFlags};
+    ghost use Rattle.x86_64_model.specs.Hierarchy.{allows, Does, MayCall, MayMap, SupplyFits};
+    ghost use Rattle.x86_64_model.specs.Call.{MapTo, MapToWithTableFlags, IdentityMap, Unmap, UpdateFlags, SetFlags};
     ghost use Rattle.x86_64_mappers.specs.RangeChanges.{IsRange, frames_done, UnmapsEach, UpdatesEach};
     ghost use Rattle.x86_64_mappers.specs.Ranges.{MayMapRange, range_of, MapsRange};
-    ghost use Rattle.x86_64_mappers.specs.PageAnswers.{allows_call, allows_page, translated_page, AnswersFlags, ArrivesIfPresent};
+    ghost use Rattle.x86_64_mappers.specs.PageAnswers.{allows_page, translated_page, DoesFlags, ArrivesIfPresent};
     ghost use Rattle.x86_64_mappers.specs.Supplies.{MapsFrom, supply_of};
     ghost use Rattle.x86_64_tables.specs.FlushRecorder.{flush_range};
     ghost use Rattle.x86_64_tables.specs.MapperAnswers.{map_answer, unmap_answer, translate_answer};
@@ -106,10 +106,10 @@ pub trait Mapper<S: PageSize>: TableAccess + PageTables {
         parent_flags: PageTableFlags,
         frame_allocator: &mut A,
     ) -> Result<MapperFlush<S>, MapToError<S>>
-        requires { MayAskMap (Self.hierarchy self.old) (A.supply frame_allocator.old) S.LEVEL
-            (MapToWithTableFlags page frame (bits_of flags) (bits_of parent_flags)) }
+        requires { MayMap (Self.hierarchy self.old) (A.supply frame_allocator.old)
+            (MapToWithTableFlags S.LEVEL page frame (bits_of flags) (bits_of parent_flags)) }
         ensures does { MapsFrom (Self.hierarchy self.old) (supply_of A.FrameAllocator frame_allocator.old)
-            S.LEVEL (MapToWithTableFlags page frame (bits_of flags) (bits_of parent_flags))
+            (MapToWithTableFlags S.LEVEL page frame (bits_of flags) (bits_of parent_flags))
             (map_answer frame result) (Self.hierarchy self.new)
             (supply_of A.FrameAllocator frame_allocator.new) }
         ensures page { IfOk result (λ flush. flush ≡ page) }
@@ -152,10 +152,10 @@ pub trait Mapper<S: PageSize>: TableAccess + PageTables {
         flags: PageTableFlags,
         frame_allocator: &mut A,
     ) -> Result<MapperFlush<S>, MapToError<S>>
-        requires { MayAskMap (Self.hierarchy self.old) (A.supply frame_allocator.old) S.LEVEL
-            (MapTo page frame (bits_of flags)) }
+        requires { MayMap (Self.hierarchy self.old) (A.supply frame_allocator.old)
+            (MapTo S.LEVEL page frame (bits_of flags)) }
         ensures does { MapsFrom (Self.hierarchy self.old) (supply_of A.FrameAllocator frame_allocator.old)
-            S.LEVEL (MapTo page frame (bits_of flags)) (map_answer frame result)
+            (MapTo S.LEVEL page frame (bits_of flags)) (map_answer frame result)
             (Self.hierarchy self.new) (supply_of A.FrameAllocator frame_allocator.new) }
         ensures page { IfOk result (λ flush. flush ≡ page) }
         ensures arrives { IfOk result (λ _.
@@ -189,10 +189,10 @@ pub trait Mapper<S: PageSize>: TableAccess + PageTables {
         frame_allocator: &mut A,
     ) -> Result<MapperFlush<S>, MapToError<S>>
         requires low { frame < 2 ^ 47 }
-        requires may { MayAskMap (Self.hierarchy self.old) (A.supply frame_allocator.old) S.LEVEL
-            (MapTo frame frame (bits_of flags)) }
+        requires may { MayMap (Self.hierarchy self.old) (A.supply frame_allocator.old)
+            (MapTo S.LEVEL frame frame (bits_of flags)) }
         ensures does { MapsFrom (Self.hierarchy self.old) (supply_of A.FrameAllocator frame_allocator.old)
-            S.LEVEL (IdentityMap frame (bits_of flags)) (map_answer frame result)
+            (IdentityMap S.LEVEL frame (bits_of flags)) (map_answer frame result)
             (Self.hierarchy self.new) (supply_of A.FrameAllocator frame_allocator.new) }
         ensures page { IfOk result (λ flush. flush ≡ frame) }
         ensures arrives { IfOk result (λ _.
@@ -237,8 +237,8 @@ pub trait Mapper<S: PageSize>: TableAccess + PageTables {
     ///
     /// A refused call changes nothing.
     final fn unmap(&mut self, page: Page<S>) -> Result<(PhysFrame<S>, MapperFlush<S>), UnmapError>
-        requires { MayAsk (Self.hierarchy self.old) S.LEVEL (Unmap page) }
-        ensures does { Answers (Self.hierarchy self.old) S.LEVEL (Unmap page)
+        requires { MayCall (Self.hierarchy self.old) (Unmap S.LEVEL page) }
+        ensures does { Does (Self.hierarchy self.old) (Unmap S.LEVEL page)
             (unmap_answer result) (Self.hierarchy self.new) }
         ensures page { IfOk result (λ unmapped. unmapped.1 ≡ page) }
     {
@@ -262,8 +262,8 @@ pub trait Mapper<S: PageSize>: TableAccess + PageTables {
         page: Page<S>,
         flags: PageTableFlags,
     ) -> Result<MapperFlush<S>, FlagUpdateError>
-        requires { MayAsk (Self.hierarchy self.old) S.LEVEL (UpdateFlags page (bits_of flags)) }
-        ensures does { AnswersFlags (Self.hierarchy self.old) S.LEVEL (UpdateFlags page (bits_of flags))
+        requires { MayCall (Self.hierarchy self.old) (UpdateFlags S.LEVEL page (bits_of flags)) }
+        ensures does { DoesFlags (Self.hierarchy self.old) (UpdateFlags S.LEVEL page (bits_of flags))
             result (Self.hierarchy self.new) }
         ensures page { IfOk result (λ flush. flush ≡ page) }
     {
@@ -408,8 +408,8 @@ pub trait Mapper<S: PageSize>: TableAccess + PageTables {
         page: Page<S>,
         flags: PageTableFlags,
     ) -> Result<MapperFlushAll, FlagUpdateError>
-        requires { MayAsk (Self.hierarchy self.old) S.LEVEL (SetFlags 4 page (bits_of flags)) }
-        ensures { AnswersFlags (Self.hierarchy self.old) S.LEVEL (SetFlags 4 page (bits_of flags))
+        requires { MayCall (Self.hierarchy self.old) (SetFlags 4 S.LEVEL page (bits_of flags)) }
+        ensures { DoesFlags (Self.hierarchy self.old) (SetFlags 4 S.LEVEL page (bits_of flags))
             result (Self.hierarchy self.new) }
     {
         calls::set_table_flags(self, page, 4, flags)
@@ -430,8 +430,8 @@ pub trait Mapper<S: PageSize>: TableAccess + PageTables {
         page: Page<S>,
         flags: PageTableFlags,
     ) -> Result<MapperFlushAll, FlagUpdateError>
-        requires { MayAsk (Self.hierarchy self.old) S.LEVEL (SetFlags 3 page (bits_of flags)) }
-        ensures { AnswersFlags (Self.hierarchy self.old) S.LEVEL (SetFlags 3 page (bits_of flags))
+        requires { MayCall (Self.hierarchy self.old) (SetFlags 3 S.LEVEL page (bits_of flags)) }
+        ensures { DoesFlags (Self.hierarchy self.old) (SetFlags 3 S.LEVEL page (bits_of flags))
             result (Self.hierarchy self.new) }
     {
         calls::set_table_flags(self, page, 3, flags)
@@ -454,8 +454,8 @@ pub trait Mapper<S: PageSize>: TableAccess + PageTables {
         page: Page<S>,
         flags: PageTableFlags,
     ) -> Result<MapperFlushAll, FlagUpdateError>
-        requires { MayAsk (Self.hierarchy self.old) S.LEVEL (SetFlags 2 page (bits_of flags)) }
-        ensures { AnswersFlags (Self.hierarchy self.old) S.LEVEL (SetFlags 2 page (bits_of flags))
+        requires { MayCall (Self.hierarchy self.old) (SetFlags 2 S.LEVEL page (bits_of flags)) }
+        ensures { DoesFlags (Self.hierarchy self.old) (SetFlags 2 S.LEVEL page (bits_of flags))
             result (Self.hierarchy self.new) }
     {
         calls::set_table_flags(self, page, 2, flags)
@@ -469,7 +469,7 @@ pub trait Mapper<S: PageSize>: TableAccess + PageTables {
     /// Requires that the hierarchy is valid.
     final fn p3_flags_allowed(&self, page: Page<S>, flags: PageTableFlags) -> bool
         requires { Valid (Self.hierarchy self.now) }
-        ensures { result ≡ allows_call (Self.hierarchy self.now) S.LEVEL (SetFlags 3 page (bits_of flags)) }
+        ensures { result ≡ allows (Self.hierarchy self.now) (SetFlags 3 S.LEVEL page (bits_of flags)) }
     {
         calls::table_flags_allowed(self, page, 3, flags)
     }
@@ -482,7 +482,7 @@ pub trait Mapper<S: PageSize>: TableAccess + PageTables {
     /// Requires that the hierarchy is valid.
     final fn p2_flags_allowed(&self, page: Page<S>, flags: PageTableFlags) -> bool
         requires { Valid (Self.hierarchy self.now) }
-        ensures { result ≡ allows_call (Self.hierarchy self.now) S.LEVEL (SetFlags 2 page (bits_of flags)) }
+        ensures { result ≡ allows (Self.hierarchy self.now) (SetFlags 2 S.LEVEL page (bits_of flags)) }
     {
         calls::table_flags_allowed(self, page, 2, flags)
     }

@@ -50,12 +50,21 @@ abbrev pub set_flags_allowed : (L : ℕ) (E : List ℕ → ℕ) → PathMap → 
 set_flags_allowed L E paths level page given = cond (nat_lt 3 level) (not (huge given))
     (refuses (set_flags L E paths level page given).answer || both_or_none (huge given) (huge (E (front_at L level page))))
 
+-- Whether the flags of the entry at a path may be set to these: they have no address bits, and the path is outside the recursive
+-- window.
+abbrev pub update_allowed : Option Window → (page : List ℕ) → (flags : ℕ) → Bool
+update_allowed window q given = no_address given && not (begins_with window q)
+
+-- Whether the flags of the entry of a level on a page's path may be set to these, in a hierarchy with L levels.
+abbrev pub table_flags_allowed : (L : ℕ) → Option Window → PathMap → (level : ℕ) (page : List ℕ) (flags : ℕ) → Bool
+table_flags_allowed L window paths level q given = update_allowed window q given && set_flags_allowed L (entry_at window paths) paths level q given
+
 -- Whether a call is allowed on the path map of a hierarchy with L levels, and a recursive window if there is one. A call that isn't
 -- allowed gets the reply `NotAllowed` and changes nothing.
 abbrev pub allowed : (L : ℕ) → Option Window → PathMap → Call → Bool
 allowed L window paths (Unmap level page) = not (begins_with window (path_at L level page))
-allowed L window paths (UpdateFlags level page given) = no_address given && not (begins_with window (path_at L level page))
-allowed L window paths (SetFlags at level page given) = no_address given && not (begins_with window (path_at L level page)) && set_flags_allowed L (entry_at window paths) paths at (path_at L level page) given
+allowed L window paths (UpdateFlags level page given) = update_allowed window (path_at L level page) given
+allowed L window paths (SetFlags at level page given) = table_flags_allowed L window paths at (path_at L level page) given
 allowed L window paths (TranslatePage level page) = true
 allowed L window paths (Translate p) = true
 allowed L window paths (TranslateAddress p) = true

@@ -1,5 +1,5 @@
 -- Calls on a hierarchy and their replies.
-use Rattle.std.specs.Prelude.{ℕ, ◌≤◌, List, Option, Some, None}
+use Rattle.std.specs.Prelude.{ℕ, ◌≤◌, Option, Some, None}
 use Rattle.x86_64_model.specs.Refusal.{Answer}
 use Rattle.x86_64_model.specs.MapRule.{parent_part}
 use Rattle.x86_64_model.specs.Translation.{Translated}

@@ -105,15 +105,23 @@ allows_map h q given parent_flags = map_allowed h.layout.levels h.layout.window 
 abbrev pub allows_map_call : {Lent : Type 0} → Hierarchy Lent → Call → Bool
 allows_map_call h call = map_call_allowed h.layout.levels h.layout.window (paths h) call
 
--- The call may be made: the hierarchy is valid, and the call is allowed.
-pub record MayCall {Lent : Type 0} (h : Hierarchy Lent) (call : Call) : Type 0 where
+-- The hierarchy is valid, and a call's own condition, which is given, holds.
+pub record MayIf {Lent : Type 0} (h : Hierarchy Lent) (condition : Bool) : Type 0 where
   pub valid : Valid h
-  pub allowed : allows h call ≡ true
+  pub allowed : condition ≡ true
+
+-- The call may be made: the hierarchy is valid, and the call is allowed.
+abbrev pub MayCall : {Lent : Type 0} → Hierarchy Lent → Call → Type 0
+MayCall h call = MayIf h (allows h call)
+
+-- The hierarchy is valid, the supply (the frames to hand out, in order) fits it, and a map's own condition, which is given, holds.
+pub record MayMapIf {Lent : Type 0} (h : Hierarchy Lent) (supply : List ℕ) (condition : Bool) : Type 0 where
+  pub fits : SupplyFits h supply
+  pub allowed : condition ≡ true
 
 -- The map may be made: the hierarchy is valid, the supply (the frames to hand out, in order) fits it, and the call is allowed.
-pub record MayMap {Lent : Type 0} (h : Hierarchy Lent) (supply : List ℕ) (call : Call) : Type 0 where
-  pub fits : SupplyFits h supply
-  pub allowed : allows_map_call h call ≡ true
+abbrev pub MayMap : {Lent : Type 0} → Hierarchy Lent → (supply : List ℕ) → Call → Type 0
+MayMap h supply call = MayMapIf h supply (allows_map_call h call)
 
 -- ---- what it leaves
 
@@ -146,8 +154,8 @@ state_of h pool = state_in h.layout h.memory pool
 
 -- The call, if it is allowed, leads the machine from this hierarchy and pool to those after it, with this answer, wherever the pool
 -- puts returned frames.
-abbrev pub Steps : {Lent : Type 0} → (h : Hierarchy Lent) → (pool : List ℕ) → Call → Answer → (after : Hierarchy Lent) → (rest : List ℕ) → Type 0
-Steps h pool call answer after rest =
+abbrev pub IsStep : {Lent : Type 0} → (h : Hierarchy Lent) → (pool : List ℕ) → Call → Answer → (after : Hierarchy Lent) → (rest : List ℕ) → Type 0
+IsStep h pool call answer after rest =
     (take_back : List ℕ → ℕ → List ℕ) → do_call (machine_of h.layout take_back) (state_of h pool) call ≡ record { state = state_of after rest; reply = Answered answer }
 
 -- The effect of a change of one entry, whose outcome by its rule is given (None if no rule has one). The path map and the answer are
@@ -213,8 +221,8 @@ pub record MayCleanUp {Lent : Type 0} (h : Hierarchy Lent) (serves : ℕ → Boo
   pub none_held : (i : ℕ) (q : List ℕ) (f : ℕ) → table_at h.layout.levels h.layout.root (paths h) (i ∷ q) ≡ Some f → In held f → ⊥
 
 -- The effect of a clean up, after which each freed frame is held where `take_back` puts it. Its outcome is that of the rule of
--- clean ups, the hierarchy is valid again, and a supply that fitted still fits with the freed frames added. The freed frames have only words 0,
--- and only words in the root and the tables change.
+-- clean ups, the hierarchy is valid again, and a supply that fitted still fits with the freed frames added. The freed frames have
+-- only words 0, and only words in the root and the tables change.
 pub record CleansUp {Lent : Type 0} (h : Hierarchy Lent) (take_back : List ℕ → ℕ → List ℕ) (held : List ℕ) (low high : ℕ) (after : Hierarchy Lent) (rest : List ℕ) : Type 0 where
   pub outcome : paths after ≡ (clean_up h.layout.levels (paths h) low high).paths
   pub returned : rest ≡ with_returned take_back held (freed_frames h low high)

@@ -1,6 +1,6 @@
 -- What a mapper's calls leave in its memory, one record for each kind of call. Here m is the memory before, and n the memory
 -- after.
-use Rattle.std.specs.Prelude.{◌≡◌, ℕ, List, Option, Some}
+use Rattle.std.specs.Prelude.{◌≡◌, ℕ, List, Some}
 use Rattle.x86_64_model.specs.Memory.{Memory}
 use Rattle.x86_64_model.specs.Lists.{In}
 use Rattle.x86_64_model.specs.Pool.{IsTable}

@@ -11,7 +11,7 @@ use Rattle.x86_64_model.specs.Machine.{do_call, after_map, after_change, only_re
 use Rattle.x86_64_model.specs.MapRule.{map_call, parent_part, leaf_entry}
 use Rattle.x86_64_model.specs.private.MapperCalls.{ChangesBy, MapsPage, MapsPath, IsChanged, after_unmap, after_update, after_set_flags}
 use Rattle.x86_64_model.specs.Memory.{Memory}
-use Rattle.x86_64_model.specs.Hierarchy.{◌laid_in◌, Hierarchy, MayMap, Does, DoesMap, ArrivesIn, CleansUp, Steps, allows, allows_map_call, change_outcome, machine_of, map_outcome, state_of, named, paths, read_entry, SupplyFits, walk}
+use Rattle.x86_64_model.specs.Hierarchy.{◌laid_in◌, Hierarchy, MayMap, DoesMap, ArrivesIn, CleansUp, IsStep, allows, allows_map_call, change_outcome, machine_of, map_outcome, state_of, paths, read_entry, SupplyFits, walk}
 use Rattle.x86_64_model.specs.PageRules.{AfterChange, refused_or, update_refusal, update_flags, set_flags}
 use Rattle.x86_64_model.specs.Path.{level_of, front_at, path_at}
 use Rattle.x86_64_model.specs.PathMap.{PathMap, put}
@@ -21,10 +21,6 @@ use Rattle.x86_64_model.specs.Refusal.{Refusal, PageNotMapped, ParentEntryHugePa
 -- ---- maps
 
 module _ {Lent : Type 0} (h : Hierarchy Lent) (supply : List ℕ) where
-  -- a `map_to` is a map with the parent flags from its own flags
-  pub may_map_to : (level page frame given : ℕ) → MayMap h supply (MapTo level page frame given) → MayMap h supply (MapToWithTableFlags level page frame given (parent_part given))
-  may_map_to level page frame given may = record { fits = may.fits; allowed = may.allowed }
-
   -- by the map rule
   pub does_map : (q : List ℕ) (frame given more : ℕ) (answer : Answer) (n : Memory) (rest : List ℕ) → MapsPage h.layout h.memory supply q frame given more answer n rest
       → MapsPath h supply q frame given more answer (record h { memory = n }) rest
@@ -39,7 +35,7 @@ module _ {Lent : Type 0} (h : Hierarchy Lent) (supply : List ℕ) where
 
   -- a map leads the machine to its outcome
   pub map_leads : (call : Call) (answer : Answer) (after : Hierarchy Lent) (rest : List ℕ)
-      → map_outcome h.layout.levels h.layout.added_flags (paths h) supply call ≡ Some (record { paths = paths after; supply = rest; answer = answer }) → Steps h supply call answer after rest
+      → map_outcome h.layout.levels h.layout.added_flags (paths h) supply call ≡ Some (record { paths = paths after; supply = rest; answer = answer }) → IsStep h supply call answer after rest
   unfolding do_call
   map_leads (MapTo level page frame given) answer after rest is = λ take_back. ap after_map (same_Some _ _ is)
   map_leads (MapToWithTableFlags level page frame given more) answer after rest is = λ take_back. ap after_map (same_Some _ _ is)
@@ -125,7 +121,7 @@ module _ (L : ℕ) (E : List ℕ → ℕ) (M : PathMap) where
 module _ {Lent : Type 0} (h : Hierarchy Lent) where
   -- a change of one entry leads the machine to its outcome
   pub change_leads : (call : Call) (answer : Answer) (after : Hierarchy Lent) → change_outcome h.layout.levels h.layout.window (paths h) call ≡ Some (record { paths = paths after; answer = answer })
-      → (pool : List ℕ) → Steps h pool call answer after pool
+      → (pool : List ℕ) → IsStep h pool call answer after pool
   unfolding do_call
   change_leads (Unmap level page) answer after is = λ pool take_back. ap (after_change pool) (same_Some _ _ is)
   change_leads (UpdateFlags level page given) answer after is = λ pool take_back. ap (after_change pool) (same_Some _ _ is)
