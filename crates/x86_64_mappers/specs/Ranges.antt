@@ -63,7 +63,7 @@ pub record IsNextMap {Lent : Type 0} (h : Hierarchy Lent) (supply : List ℕ) (c
 abbrev pub MapsEach : {Lent : Type 0} → Hierarchy Lent → (supply : List ℕ) → MapRange → (count : ℕ) → (answers : List Reply) → (after : Hierarchy Lent) → (rest : List ℕ) → Type 0
 MapsEach h supply r zero answers after rest = (answers ≡ []) × (after ≡ h) × (rest ≡ supply)
 MapsEach {Lent} h supply r (suc k) answers after rest = (now : Hierarchy Lent) × (left : List ℕ) × (before : List Reply) × MapsEach h supply r k before now left
-    × IsNextMap now left (map_at h.layout.levels r k) before answers after rest
+    × IsNextMap now left (map_at r k) before answers after rest
 
 -- What the maps of the first pages of a range, one after another, leave. Each does what a single map does. Replies and state are
 -- the machine's for this list of calls, the rest of the supply fits, and only words in the root, the tables and the taken frames
@@ -71,8 +71,8 @@ MapsEach {Lent} h supply r (suc k) answers after rest = (now : Hierarchy Lent) �
 -- flags grant.
 pub record DoesMaps {Lent : Type 0} (h : Hierarchy Lent) (supply : List ℕ) (r : MapRange) (count : ℕ) (answers : List Reply) (after : Hierarchy Lent) (rest : List ℕ) : Type 0 where
   pub each : MapsEach h supply r count answers after rest
-  pub replies : (take_back : List ℕ → ℕ → List ℕ) → replies_of (machine_of h.layout take_back) (state_of h supply) (maps h.layout.levels r count) ≡ answers
-  pub state : (take_back : List ℕ → ℕ → List ℕ) → state_after (machine_of h.layout take_back) (state_of h supply) (maps h.layout.levels r count) ≡ state_of after rest
+  pub replies : (take_back : List ℕ → ℕ → List ℕ) → replies_of (machine_of h.layout take_back) (state_of h supply) (maps r count) ≡ answers
+  pub state : (take_back : List ℕ → ℕ → List ℕ) → state_after (machine_of h.layout take_back) (state_of h supply) (maps r count) ≡ state_of after rest
   pub fits : SupplyFits after rest
   pub others : KeepsOthers (λ f. Owns h supply f × (In rest f → ⊥)) h after
   pub walks : (p : ℕ) → Arrives r.parent_flags (walk h p) (walk after p)

@@ -8,6 +8,7 @@ pub mod MapSteps
 pub mod OpenWay
 pub mod OwnedSteps
 pub mod PageCalls
+pub mod PathCalls
 pub mod RangeChangeSteps
 pub mod RangeSteps
 pub mod Results

@@ -65,8 +65,8 @@ pub record MapsPart {Lent : Type 0} (h : Hierarchy Lent) (supply : Supply) (pare
 -- what a single map does, and replies and state are the machine's. Each page walk that arrived still arrives at the same address,
 -- loses no right, and gains only rights that the parent flags grant.
 pub record IsRangeRun (l : Layout) (m : Memory) (s : List ℕ) (r : MapRange) (count : ℕ) (answers : List Reply) (n : Memory) (rest : List ℕ) : Type 0 where
-  pub replies : (take_back : List ℕ → ℕ → List ℕ) → replies_of (machine_of l take_back) (state_in l m s) (maps l.levels r count) ≡ answers
-  pub state : (take_back : List ℕ → ℕ → List ℕ) → state_after (machine_of l take_back) (state_in l m s) (maps l.levels r count) ≡ state_in l n rest
+  pub replies : (take_back : List ℕ → ℕ → List ℕ) → replies_of (machine_of l take_back) (state_in l m s) (maps r count) ≡ answers
+  pub state : (take_back : List ℕ → ℕ → List ℕ) → state_after (machine_of l take_back) (state_in l m s) (maps r count) ≡ state_in l n rest
   pub owned : KeepsOwned l m s n rest
   pub walks : (p : ℕ) → Arrives r.parent_flags (walk (l laid_in m) p) (walk (l laid_in n) p)
   pub each : MapsEach (l laid_in m) s r count answers (l laid_in n) rest

@@ -1,14 +1,15 @@
 //! Calls that change one entry.
-ghost use Rattle.std.specs.Prelude.{◌≡◌, ◌<◌, ◌≤◌, ◌+◌, length};
+ghost use Rattle.std.specs.Prelude.{◌≡◌, ◌<◌, ◌≤◌, ◌+◌, length, not};
 ghost use Rattle.std.specs.Fn.{FnOnceReturnsAtMut};
-ghost use Rattle.x86_64_model.specs.Call.{Unmap, UpdateFlags, SetFlags};
-ghost use Rattle.x86_64_model.specs.Hierarchy.{Valid, MayCall, Does};
+ghost use Rattle.x86_64_model.specs.Allowed.{update_allowed};
+ghost use Rattle.x86_64_model.specs.Hierarchy.{MayIf, Valid};
 ghost use Rattle.x86_64_model.specs.Refusal.{refusal_of};
+ghost use Rattle.x86_64_model.specs.Window.{begins_with};
 ghost use Rattle.x86_64_mappers.specs.private.EntryCalls.{answer_said, word_said};
 ghost use Rattle.x86_64_mappers.specs.private.PageCalls.{unmap_says, update_says};
+ghost use Rattle.x86_64_mappers.specs.private.PathCalls.{flags_may_be_set, SetsFlagsOnPath, UnmapsPath, UpdatesPath};
 ghost use Rattle.x86_64_mappers.specs.private.Results.{walk_result};
 ghost use Rattle.x86_64_mappers.specs.private.TableFlags.{flags_say};
-ghost use Rattle.x86_64_mappers.specs.PageAnswers.{DoesFlags};
 ghost use Rattle.x86_64_mappers.specs.private.OwnedSteps.{ChangesEntry};
 ghost use Rattle.x86_64_tables.specs.MapperAnswers.{frame_answer, flags_refusal};
 ghost use Rattle.x86_64_tables.specs.PageTableFlags.{bits_of};
@@ -32,8 +33,9 @@ pub fn unmap_path<S: PageSize, M: TableAccess>(
     path: &[PageTableIndex],
 ) -> Result<PhysFrame<S>, UnmapError>
     requires levels { length path.now + S.LEVEL ≡ (M.hierarchy mapper.old).layout.levels + 1 }
-    requires may { MayCall (M.hierarchy mapper.old) (Unmap path.now) }
-    ensures { Does (M.hierarchy mapper.old) (Unmap path.now) (frame_answer result) (M.hierarchy mapper.new) }
+    requires may { MayIf (M.hierarchy mapper.old)
+        (not (begins_with (M.hierarchy mapper.old).layout.window path.now)) }
+    ensures { UnmapsPath (M.hierarchy mapper.old) path.now (frame_answer result) (M.hierarchy mapper.new) }
 {
     change_entry(mapper, path, |entry| unmap_entry(entry))?
 }
@@ -49,9 +51,9 @@ pub fn update_path<S: PageSize, M: TableAccess>(
     flags: PageTableFlags,
 ) -> Result<(), FlagUpdateError>
     requires levels { length path.now + S.LEVEL ≡ (M.hierarchy mapper.old).layout.levels + 1 }
-    requires may { MayCall (M.hierarchy mapper.old) (UpdateFlags path.now (bits_of flags)) }
-    ensures { DoesFlags (M.hierarchy mapper.old) (UpdateFlags path.now (bits_of flags)) result
-        (M.hierarchy mapper.new) }
+    requires may { MayIf (M.hierarchy mapper.old)
+        (update_allowed (M.hierarchy mapper.old).layout.window path.now (bits_of flags)) }
+    ensures { UpdatesPath (M.hierarchy mapper.old) path.now (bits_of flags) result (M.hierarchy mapper.new) }
 {
     change_entry(mapper, path, |entry| update_entry::<S>(entry, flags))?
 }
@@ -71,8 +73,9 @@ pub fn set_table_flags<S: PageSize, M: TableAccess>(
     requires levels { length path.now + S.LEVEL ≡ (M.hierarchy mapper.old).layout.levels + 1 }
     requires low { 2 ≤ level }
     requires high { level ≤ (M.hierarchy mapper.old).layout.levels }
-    requires may { MayCall (M.hierarchy mapper.old) (SetFlags level path.now (bits_of flags)) }
-    ensures { DoesFlags (M.hierarchy mapper.old) (SetFlags level path.now (bits_of flags)) result
+    requires may { MayIf (M.hierarchy mapper.old)
+        (flags_may_be_set (M.hierarchy mapper.old) level path.now (bits_of flags)) }
+    ensures { SetsFlagsOnPath (M.hierarchy mapper.old) level path.now (bits_of flags) result
         (M.hierarchy mapper.new) }
 {
     if level <= S::LEVEL {

@@ -1,12 +1,12 @@
 //! Tests of the conditions of calls.
 ghost use Rattle.std.specs.Prelude.{◌≡◌, ◌<◌, ◌≤◌, ◌+◌, ◌-◌, ◌*◌, ◌^◌, ◌==◌, ◌↔◌, ℕ, true, false, [], ◌∷◌, ◌++◌, length, IsTrue};
-ghost use Rattle.x86_64_model.specs.Call.{SetFlags};
 ghost use Rattle.x86_64_model.specs.Entry.{present};
-ghost use Rattle.x86_64_model.specs.Hierarchy.{Valid, allows, allows_map, paths, read_entry};
+ghost use Rattle.x86_64_model.specs.Hierarchy.{Valid, allows_map, paths, read_entry};
 ghost use Rattle.x86_64_model.specs.Window.{begins_with};
 ghost use Rattle.x86_64_mappers.specs.RangeChanges.{IsRange};
 ghost use Rattle.x86_64_mappers.specs.Ranges.{MayMapRange, range_of};
 ghost use Rattle.x86_64_mappers.specs.private.MapConditions.{flags_allowed, are_present, meets_none_absent, AreOutside};
+ghost use Rattle.x86_64_mappers.specs.private.PathCalls.{flags_may_be_set};
 ghost use Rattle.x86_64_mappers.specs.private.Results.{walk_result};
 ghost use Rattle.x86_64_mappers.specs.private.TableFlags.{keeps_huge};
 ghost use Rattle.x86_64_tables.specs.PageTableFlags.{bits_of};
@@ -48,7 +48,7 @@ pub fn table_flags_allowed<S: PageSize, M: TableAccess>(
     requires low { 2 ≤ level }
     requires high { level ≤ 3 }
     requires valid { Valid (M.hierarchy mapper.now) }
-    ensures { result ≡ allows (M.hierarchy mapper.now) (SetFlags level path.now (bits_of flags)) }
+    ensures { result ≡ flags_may_be_set (M.hierarchy mapper.now) level path.now (bits_of flags) }
 {
     (!flags.has_address_bits() & !is_in_window(mapper, path))
         && (level <= S::LEVEL || keeps_huge(mapper, path_to_level::<S>(path, level), flags))

@@ -1,11 +1,11 @@
 //! Maps of pages.
 ghost use Rattle.std.specs.Prelude.{◌≡◌, ◌<◌, ◌+◌, true, false, if◌then◌else◌, length, take, get_or, bit_or, Some, IfOk, Ok, Err};
-ghost use Rattle.x86_64_model.specs.Call.{MapToWithTableFlags};
 ghost use Rattle.x86_64_model.specs.Entry.{address, huge, IsParentFlags};
-ghost use Rattle.x86_64_model.specs.Hierarchy.{SupplyFits, MayMap, paths, words};
+ghost use Rattle.x86_64_model.specs.Hierarchy.{allows_map, MayMapIf, SupplyFits, paths, words};
+ghost use Rattle.x86_64_model.specs.private.MapperCalls.{MapsPath};
 ghost use Rattle.x86_64_model.specs.Refusal.{ParentEntryHugePage};
 ghost use Rattle.x86_64_model.specs.Window.{begins_with};
-ghost use Rattle.x86_64_mappers.specs.Supplies.{DoesMapFrom, supply_of};
+ghost use Rattle.x86_64_mappers.specs.Supplies.{supply_of};
 ghost use Rattle.x86_64_mappers.specs.TablesAbove.{CreatesTables, tables_refusal};
 ghost use Rattle.x86_64_mappers.specs.private.OpenWay.{WillBePresent};
 ghost use Rattle.x86_64_mappers.specs.private.OwnedSteps.{LinksTable, MakesTable, MakesTables, SetsLeaf, SetsWord, LeadsOpenly, MayNameTable};
@@ -224,8 +224,8 @@ pub fn create_tables_above<S: PageSize, M: TableAccess, A: FrameAllocator<Size4K
     frame_allocator: &mut A,
 ) -> Result<(), MapToError<S>>
     requires levels { length path.now + S.LEVEL ≡ (M.hierarchy mapper.old).layout.levels + 1 }
-    requires may { MayMap (M.hierarchy mapper.old) (A.supply frame_allocator.old)
-        (MapToWithTableFlags path.now 0 0 (bits_of parent_flags)) }
+    requires may { MayMapIf (M.hierarchy mapper.old) (A.supply frame_allocator.old)
+        (allows_map (M.hierarchy mapper.old) path.now 0 (bits_of parent_flags)) }
     ensures { CreatesTables (M.hierarchy mapper.old) (supply_of A.FrameAllocator frame_allocator.old)
         (bits_of parent_flags) path.now (tables_refusal result)
         (M.hierarchy mapper.new) (supply_of A.FrameAllocator frame_allocator.new) }
@@ -280,11 +280,12 @@ pub fn map_path<S: PageSize, M: TableAccess, A: FrameAllocator<Size4KiB>>(
     frame_allocator: &mut A,
 ) -> Result<(), MapToError<S>>
     requires levels { length path.now + S.LEVEL ≡ (M.hierarchy mapper.old).layout.levels + 1 }
-    requires may { MayMap (M.hierarchy mapper.old) (A.supply frame_allocator.old)
-        (MapToWithTableFlags path.now frame (bits_of flags) (bits_of parent_flags)) }
-    ensures { DoesMapFrom (M.hierarchy mapper.old) (supply_of A.FrameAllocator frame_allocator.old)
-        (MapToWithTableFlags path.now frame (bits_of flags) (bits_of parent_flags)) (map_answer frame result)
-        (M.hierarchy mapper.new) (supply_of A.FrameAllocator frame_allocator.new) }
+    requires may { MayMapIf (M.hierarchy mapper.old) (A.supply frame_allocator.old)
+        (allows_map (M.hierarchy mapper.old) path.now (bits_of flags) (bits_of parent_flags)) }
+    ensures maps { MapsPath (M.hierarchy mapper.old) (A.supply frame_allocator.old)
+        path.now frame (bits_of flags) (bits_of parent_flags) (map_answer frame result)
+        (M.hierarchy mapper.new) (A.supply frame_allocator.new) }
+    ensures serves { A.serves frame_allocator.new ≡ A.serves frame_allocator.old }
 {
     let last = path.len() - 1;
     let parents = &path[..last];
