@@ -69,7 +69,7 @@ TESTS = Rules(
         "memory_unit::access_and_mark": ["assert!(controls.physical_bits <= 52);"],
         "path::outcome_of": ["assert!(controls.physical_bits <= 52);"],
         "Controls::is_reserved": ["assert!(self.physical_bits <= 52);"],
-        "cursor::span": ["assert!(1 <= level && level <= 5);"],
+        "walk::span": ["assert!(1 <= level && level <= 5);"],
         "walk_entries::read_entries": ["assert!(L::LEVELS <= entries.len() as u64);"],
         "ranges::change_range": ["assert!(are_flag_masks(keep, set));"],
         "calls::map_to_with_table_flags": ["debug_assert!(map_allowed(mapper, page, flags, parent_flags));"],

@@ -4,5 +4,3 @@ pub mod Padded
 pub mod Results
 pub mod WalkLaws
 pub mod WalkValues
-pub mod Walking
-pub mod WordByWord

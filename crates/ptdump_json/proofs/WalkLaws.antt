@@ -11,9 +11,9 @@ use Rattle.x86_64_model.specs.Position.{span}
 use Rattle.x86_64_model.specs.Steps.{Step, steps, rights_in, last_arrival}
 use Rattle.x86_64_model.proofs.Lemmas.Walks.Steps.{walks_arrive_by_steps}
 use Rattle.ptdump_json.specs.Laws.{WrittenWalksArrive}
-use Rattle.ptdump_json.specs.Walks.{End, Walk, arrives_at, not_present, huge_page, no_table, arrival_with, arrival_of, walk_end, walk_of, walk_rights}
-use Rattle.ptdump_json.specs.Walked.{page_size}
-use Rattle.ptdump_json.proofs.Walking.{read_word}
+use Rattle.ptdump_json.specs.Walks.{End, Walk, arrives_at, not_present, huge_page, no_table, arrival_with, arrival_of, read_word, walk_end, walk_of, walk_rights}
+use Rattle.ptdump_json.specs.declared.walked.Walk.{Walk as WalkValue}
+use Rattle.ptdump_json.specs.Walked.{IsWalk, page_size, walk_end_at}
 
 -- the words of steps are those that are read
 words_read : (read : List Step) → map (λ w. w.word) (map read_word read) ≡ map (λ s. s.word) read
@@ -54,3 +54,12 @@ page-walk L T root p = by (walk_of L T root p) ∙ ap is_some (written_walks_arr
 pub same_walk : (T W : Words) (p level f : ℕ) → SameBelow level T W f → walk_of level T f p ≡ walk_of level W f p
 unfolding walk_of
 same_walk T W p level f same = ap (λ read. record { words = map read_word read; end = walk_end p f (last_or None read) }) (same_steps T W p level f same)
+
+-- the value of a walk, by the words that it reads and the rights that they grant
+pub is_walk : (L : ℕ) (T : Words) (root p : ℕ) (value : WalkValue) (r : Rights) → let all = steps T p L root in
+    value.words.items ≡ map read_word all → r ≡ rights_in all → value.end ≡ walk_end_at r (walk_end p root (last_or None all)) → IsWalk (walk_of L T root p) value
+unfolding walk_of
+is_walk L T root p value r words rights end = let all = steps T p L root in record {
+  words = words;
+  end = end ∙ ap (λ (k : Rights). walk_end_at k (walk_end p root (last_or None all))) (rights ∙ sym (ap rights_of (words_read all)));
+}

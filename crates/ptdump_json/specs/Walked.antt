@@ -21,11 +21,6 @@ walk_end_at rights not_present = ends.NotPresent
 walk_end_at rights (no_table frame) = ends.MissingTable frame
 walk_end_at rights (huge_page level) = ends.HugePage level
 
--- The end of a walk as code represents it, if the words above the walk grant some rights. If the walk arrives, it has those of them
--- that all of its words grant too.
-abbrev pub end_with : (above : Rights) → Walk → WalkEnd
-end_with above walk = walk_end_at (both above (walk_rights walk)) walk.end
-
 -- The value represents a walk in code: its words, and its end, which has the rights that all words grant if the walk arrives.
 pub record IsWalk (walk : Walk) (value : WalkValue) : Type 0 where
   pub words : value.words.items ≡ walk.words

@@ -29,18 +29,26 @@ pub record Walk : Type 0 where
   pub words : List WordRead
   pub end : End
 
--- The end of a walk to position p from a root, by the last word that it reads. If it reads none, the root's table is missing.
-abbrev pub walk_end : (p root : ℕ) → Option Step → End
-walk_end p root None = no_table root
-walk_end p root (Some s) = cond (present s.word)
+-- The end of a walk to position p, if this is the last word that it reads.
+abbrev pub end_by : (p : ℕ) → Step → End
+end_by p s = cond (present s.word)
     (cond (maps_page s.level s.word) (arrives_at (page_start s.level s.word + p % span s.level) (span s.level))
     (cond (huge s.word) (huge_page s.level) (no_table (address s.word))))
     not_present
 
+-- The end of a walk to position p from a root, by the last word that it reads. If it reads none, the root's table is missing.
+abbrev pub walk_end : (p root : ℕ) → Option Step → End
+walk_end p root None = no_table root
+walk_end p root (Some s) = end_by p s
+
+-- A word that a page walk reads, as code represents it.
+abbrev pub read_word : Step → WordRead
+read_word s = record { level = s.level; table = s.frame; index = s.index; word = s.word }
+
 -- The walk to position p from a root, with L levels of tables.
 unfoldable pub walk_of : (L : ℕ) → Words → (root p : ℕ) → Walk
 walk_of L T root p = let read = steps T p L root in record {
-  words = map (λ s. record { level = s.level; table = s.frame; index = s.index; word = s.word }) read;
+  words = map read_word read;
   end = walk_end p root (last_or None read);
 }
 

@@ -1,10 +1,12 @@
 //! Words that walks read. They have a text, and so has a missing table.
-ghost use Rattle.std.specs.Prelude.{Some};
+ghost use Rattle.std.specs.Prelude.{◌≡◌, Some};
+ghost use Rattle.ptdump_json.specs.Walks.{read_word};
 
 use std::fmt::{Display, Formatter, Result as FmtResult, Write};
 use text::write_hexadecimal;
 use x86_64_page::frame::PhysFrame;
 use x86_64_page::page::Size4KiB;
+use x86_64_tables::phys_memory::Step;
 
 /// A word that a walk reads, with its table and index.
 #[derive(Clone, Copy)]
@@ -17,6 +19,20 @@ pub struct WordRead {
     pub index: usize,
     /// The word.
     pub word: u64,
+}
+
+impl WordRead {
+    /// Creates the word of a step of a walk.
+    pub fn of(step: &Step) -> WordRead
+        ensures { result ≡ read_word step.now }
+    {
+        WordRead {
+            level: step.level,
+            table: step.frame,
+            index: step.index,
+            word: step.word,
+        }
+    }
 }
 
 impl Display for WordRead {

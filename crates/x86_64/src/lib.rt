@@ -120,6 +120,8 @@ pub use x86_64_tables::phys_memory::PlacesRefusal;
 pub use x86_64_tables::phys_memory::SegmentMapping;
 pub use x86_64_tables::phys_memory::SegmentRefusal;
 pub use x86_64_tables::phys_memory::ShiftMapping;
+pub use x86_64_tables::phys_memory::Step;
+pub use x86_64_tables::phys_memory::Steps;
 pub use x86_64_tables::phys_memory::TableMemory;
 pub use x86_64_tables::phys_memory::Walked;
 pub use x86_64_tables::phys_memory::is_valid_by_marks;

@@ -1,10 +1,8 @@
 //! The page walk with all rights.
-ghost use Rattle.std.specs.Prelude.{◌≡◌, ◌≤◌, ◌+◌, ◌%◌, ℕ, length, Some, None};
+ghost use Rattle.std.specs.Prelude.{◌≡◌, ℕ, length, Some, None};
 ghost use Rattle.x86_64_c.specs.Arguments as given;
 ghost use Rattle.x86_64_c.specs.Reads.{WritesIfFound};
 ghost use Rattle.x86_64_c.specs.Walks as walks;
-ghost use Rattle.x86_64_model.specs.PageWalk.{page_start};
-ghost use Rattle.x86_64_model.specs.Position.{span as span_of};
 
 use crate::arguments::{Hierarchy, Located, address_of};
 use crate::operation::{Operation, enter};
@@ -12,11 +10,8 @@ use crate::reads::tell;
 use x86_64::structures::paging::PageTable;
 use x86_64::structures::paging::mapper::PageTableFrameMapping;
 use x86_64::{LevelCount, TableMemory, VirtAddrIn};
-use x86_64_mappings::{EntriesRead, MOST_LEVELS, WalkEnd, WalkEntry, read_entries, span};
 use x86_64_tables::page_table::Rights;
-
-/// The bits of an entry that are the address of a frame.
-const ADDRESS: u64 = 0x000f_ffff_ffff_f000;
+use x86_64_tables::phys_memory::{Step, Steps};
 
 /// Where a page walk arrives, and what all entries on its way allow.
 #[derive(Clone, Copy)]
@@ -111,30 +106,21 @@ fn walk_at<L: LevelCount, T: TableMemory, P: PageTableFrameMapping + Copy>(
 ) -> Option<WalkResult>
     ensures { result ≡ walks.walked_at (given.at P.places L.LEVELS located (T.tables memory.now)) address }
 {
-    let position = address.position();
     let Located { root, mapping } = located;
-    let mut entries = [WalkEntry::NONE; MOST_LEVELS];
-    let EntriesRead { count, rights, end } = read_entries(
-        memory,
-        &mapping,
-        root,
-        address,
-        &mut entries,
-    );
-    if end != WalkEnd::Page {
-        return None;
+    let mut rights = Rights::ALL;
+    let mut last = None;
+    for step in Steps::new(memory, &mapping, root, address) {
+        rights = rights.below(&step.entry());
+        last = Some(step);
     }
-    let page = entries[count - 1];
-    Some(WalkResult::of(address_in(page.level, page.word, position), rights))
+    told(last, address.position(), rights)
 }
 
-/// Returns the address of a position in the page that a word of a level maps.
-#[tactic(auto, unfolding(x86_64_model::specs::Entry::address))]
-fn address_in(level: u64, word: u64, position: u64) -> u64
-    requires low { 1 ≤ level }
-    requires high { level ≤ 3 }
-    ensures { result ≡ page_start level word + position % span_of level }
+/// Returns where a walk to a position, the number of an address counted without the gap, arrives by the last word that it reads. All its
+/// words allow `rights`.
+fn told(last: Option<Step>, position: u64, rights: Rights) -> Option<WalkResult>
+    ensures { result ≡ walks.told_by position rights last }
 {
-    let size = span(level);
-    (word & ADDRESS) / size * size + position % size
+    let to = last?.address(position)?;
+    Some(WalkResult::of(to.as_u64(), rights))
 }

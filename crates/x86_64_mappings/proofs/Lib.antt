@@ -12,7 +12,7 @@ mod Spans
 mod Runs
 mod Levels
 pub mod Filling
-pub mod StepsRead
+pub mod EntriesWritten
 pub mod Unselected
 pub mod Distinct
 pub mod FirstOfKinds

@@ -1,16 +1,15 @@
 //! The entries that a page walk reads, and why it ends.
-ghost use Rattle.std.specs.Prelude.{◌≡◌, ◌≤◌, length, true, false, IfSome, IfNone};
+ghost use Rattle.std.specs.Prelude.{◌≡◌, ◌≤◌, length};
 ghost use Rattle.x86_64_mappings.specs.WalkEntries as walk;
-ghost use Rattle.x86_64_mappings.specs.declared.walk_entries.WalkEnd.TheVariants.{NoTable};
 ghost use Rattle.x86_64_model.specs.Memory.{words_of};
-ghost use Rattle.x86_64_model.specs.Steps.{leads_on, rights_in, steps};
+ghost use Rattle.x86_64_model.specs.Steps.{rights_in, steps};
 
 use x86_64_addr::addr::VirtAddrIn;
 use x86_64_addr::level_count::LevelCount;
 use x86_64_page::frame::PhysFrame;
 use x86_64_page::page::Size4KiB;
-use x86_64_tables::page_table::{PageTableEntry, PageTableFlags, Rights, has_flag};
-use x86_64_tables::phys_memory::{PageTableFrameMapping, TableMemory, index_of, table_in};
+use x86_64_tables::page_table::{PageTableFlags, Rights, has_flag};
+use x86_64_tables::phys_memory::{PageTableFrameMapping, Step, Steps, TableMemory};
 
 /// The most levels of tables, and so the most entries that a walk reads.
 pub const MOST_LEVELS: usize = 5;
@@ -37,6 +36,18 @@ impl WalkEntry {
         index: 0,
         word: 0,
     };
+
+    /// Creates the entry for a word that a walk reads.
+    fn of(step: &Step) -> WalkEntry
+        ensures { result ≡ walk.written step.now }
+    {
+        WalkEntry {
+            level: step.level,
+            table: step.frame.start_address().as_u64(),
+            index: step.index as u64,
+            word: step.word,
+        }
+    }
 }
 
 /// Why a page walk ends at the last entry that it reads.
@@ -50,6 +61,24 @@ pub enum WalkEnd {
     HugePage,
     /// The table that the entry names isn't in the memory, or the root's table isn't, so that no entry is read.
     NoTable,
+}
+
+impl WalkEnd {
+    /// Returns why a walk ends at a word, if it goes on to no further one.
+    fn at(step: &Step) -> WalkEnd
+        ensures { result ≡ walk.end_at step.now.level step.now.word }
+    {
+        let entry = step.entry();
+        if !has_flag(&entry, PageTableFlags::PRESENT) {
+            WalkEnd::NotPresent
+        } else if entry.maps_page(step.level) {
+            WalkEnd::Page
+        } else if has_flag(&entry, PageTableFlags::HUGE_PAGE) {
+            WalkEnd::HugePage
+        } else {
+            WalkEnd::NoTable
+        }
+    }
 }
 
 /// What a page walk reads.
@@ -88,89 +117,14 @@ pub fn read_entries<L: LevelCount, T: TableMemory, P: PageTableFrameMapping>(
     ensures end { result.end ≡ walk.end_of (steps
         (words_of (T.tables memory.now) (P.places mapping.now)) address L.LEVELS root) }
 {
-    read_from(
-        memory,
-        mapping,
-        L::LEVELS,
-        root,
-        address.position(),
-        entries,
-    )
-}
-
-/// Writes the entries that the walk to a position reads, the number of an address counted without the gap, through so many levels.
-fn read_from<T: TableMemory, P: PageTableFrameMapping>(
-    memory: &T,
-    mapping: &P,
-    levels: u64,
-    root: PhysFrame<Size4KiB>,
-    position: u64,
-    entries: &mut [WalkEntry],
-) -> EntriesRead
-    requires levels { levels ≤ 5 }
-    requires room { levels ≤ length entries.old }
-    ensures writes { walk.Writes (steps
-        (words_of (T.tables memory.now) (P.places mapping.now)) position levels root)
-        entries.old entries.new result.count }
-    ensures rights { result.rights ≡ rights_in (steps
-        (words_of (T.tables memory.now) (P.places mapping.now)) position levels root) }
-    ensures end { result.end ≡ walk.end_of (steps
-        (words_of (T.tables memory.now) (P.places mapping.now)) position levels root) }
-{
-    let mut frame = root;
+    let mut count = 0;
     let mut rights = Rights::ALL;
-    for above in 0..levels {
-        let level = levels - above;
-        let count = above as usize;
-        let Some(table) = table_in(memory, mapping, frame) else {
-            return EntriesRead {
-                count,
-                rights,
-                end: WalkEnd::NoTable,
-            };
-        };
-        let index = index_of(position, level);
-        // A copy, since a processor, or a caller who exchanges entries, may change the word meanwhile.
-        let entry = PageTableEntry::from_word(table[index].word());
-        rights = rights.below(&entry);
-        entries[count] = WalkEntry {
-            level,
-            table: frame.start_address().as_u64(),
-            index: index as u64,
-            word: entry.word(),
-        };
-        if let Some(end) = end_at(level, &entry) {
-            return EntriesRead {
-                count: count + 1,
-                rights,
-                end,
-            };
-        }
-        frame = PhysFrame::from_start_address_unchecked(entry.addr());
+    let mut end = WalkEnd::NoTable;
+    for step in Steps::new(memory, mapping, root, address) {
+        entries[count] = WalkEntry::of(&step);
+        count += 1;
+        rights = rights.below(&step.entry());
+        end = WalkEnd::at(&step);
     }
-    EntriesRead {
-        count: levels as usize,
-        rights,
-        end: WalkEnd::NoTable,
-    }
-}
-
-/// Returns why a walk ends at an entry of a level, if it does: because the entry lacks `PRESENT`, maps a page, or has `HUGE_PAGE` where
-/// none may.
-fn end_at(level: u64, entry: &PageTableEntry) -> Option<WalkEnd>
-    requires { 1 ≤ level }
-    ensures some { IfSome result (λ end. end ≡ walk.end_at level entry.now) }
-    ensures ends { IfSome result (λ _. leads_on level entry.now ≡ false) }
-    ensures none { IfNone result (leads_on level entry.now ≡ true) }
-    ensures table { IfNone result (walk.end_at level entry.now ≡ NoTable) }
-{
-    if !has_flag(entry, PageTableFlags::PRESENT) {
-        Some(WalkEnd::NotPresent)
-    } else if entry.maps_page(level) {
-        Some(WalkEnd::Page)
-    } else if has_flag(entry, PageTableFlags::HUGE_PAGE) {
-        Some(WalkEnd::HugePage)
-    } else {
-        None
-    }
+    EntriesRead { count, rights, end }
 }

@@ -4,8 +4,8 @@ use crate::addresses::addr::VirtAddrIn;
 use crate::addresses::level_count::LevelCount;
 use crate::pages::frame::PhysFrame;
 use crate::pages::page::Size4KiB;
-use crate::tables::page_table::{has_flag, PageTableEntry, PageTableFlags, Rights};
-use crate::tables::phys_memory::{index_of, table_in, PageTableFrameMapping, TableMemory};
+use crate::tables::page_table::{has_flag, PageTableFlags, Rights};
+use crate::tables::phys_memory::{PageTableFrameMapping, Step, Steps, TableMemory};
 
 /// The most levels of tables, and so the most entries that a walk reads.
 pub const MOST_LEVELS: usize = 5;
@@ -27,6 +27,12 @@ pub struct WalkEntry {
 impl WalkEntry {
     /// No entry.
     pub const NONE: WalkEntry = WalkEntry { level: 0, table: 0, index: 0, word: 0 };
+
+    /// Creates the entry for a word that a walk reads.
+    #[inline]
+    fn of(step: &Step) -> WalkEntry {
+        WalkEntry { level: step.level, table: step.frame.start_address().as_u64(), index: step.index as u64, word: step.word }
+    }
 }
 
 /// Why a page walk ends at the last entry that it reads.
@@ -40,6 +46,22 @@ pub enum WalkEnd {
     HugePage,
     /// The table that the entry names isn't in the memory, or the root's table isn't, so that no entry is read.
     NoTable,
+}
+
+impl WalkEnd {
+    /// Returns why a walk ends at a word, if it goes on to no further one.
+    fn at(step: &Step) -> WalkEnd {
+        let entry = step.entry();
+        if !has_flag(&entry, PageTableFlags::PRESENT) {
+            WalkEnd::NotPresent
+        } else if entry.maps_page(step.level) {
+            WalkEnd::Page
+        } else if has_flag(&entry, PageTableFlags::HUGE_PAGE) {
+            WalkEnd::HugePage
+        } else {
+            WalkEnd::NoTable
+        }
+    }
 }
 
 /// What a page walk reads.
@@ -87,50 +109,14 @@ pub fn read_entries<L: LevelCount, T: TableMemory, P: PageTableFrameMapping>(
     entries: &mut [WalkEntry],
 ) -> EntriesRead {
     assert!(L::LEVELS <= entries.len() as u64);
-    read_from(memory, mapping, L::LEVELS, root, address.position(), entries)
-}
-
-/// Writes the entries that the walk to a position reads, the number of an address counted without the gap, through so many levels.
-fn read_from<T: TableMemory, P: PageTableFrameMapping>(
-    memory: &T,
-    mapping: &P,
-    levels: u64,
-    root: PhysFrame<Size4KiB>,
-    position: u64,
-    entries: &mut [WalkEntry],
-) -> EntriesRead {
-    let mut frame = root;
+    let mut count = 0;
     let mut rights = Rights::ALL;
-    for above in 0..levels {
-        let level = levels - above;
-        let count = above as usize;
-        let Some(table) = table_in(memory, mapping, frame) else {
-            return EntriesRead { count, rights, end: WalkEnd::NoTable };
-        };
-        let index = index_of(position, level);
-        // A copy, since a processor, or a caller who exchanges entries, may change the word meanwhile.
-        let entry = PageTableEntry::from_word(table[index].word());
-        rights = rights.below(&entry);
-        entries[count] = WalkEntry { level, table: frame.start_address().as_u64(), index: index as u64, word: entry.word() };
-        if let Some(end) = end_at(level, &entry) {
-            return EntriesRead { count: count + 1, rights, end };
-        }
-        frame = PhysFrame::from_start_address_unchecked(entry.addr());
+    let mut end = WalkEnd::NoTable;
+    for step in Steps::new(memory, mapping, root, address) {
+        entries[count] = WalkEntry::of(&step);
+        count += 1;
+        rights = rights.below(&step.entry());
+        end = WalkEnd::at(&step);
     }
-    EntriesRead { count: levels as usize, rights, end: WalkEnd::NoTable }
-}
-
-/// Returns why a walk ends at an entry of a level, if it does: because the entry lacks `PRESENT`, maps a page, or has `HUGE_PAGE` where
-/// none may.
-#[inline]
-fn end_at(level: u64, entry: &PageTableEntry) -> Option<WalkEnd> {
-    if !has_flag(entry, PageTableFlags::PRESENT) {
-        Some(WalkEnd::NotPresent)
-    } else if entry.maps_page(level) {
-        Some(WalkEnd::Page)
-    } else if has_flag(entry, PageTableFlags::HUGE_PAGE) {
-        Some(WalkEnd::HugePage)
-    } else {
-        None
-    }
+    EntriesRead { count, rights, end }
 }

@@ -11,6 +11,7 @@ mod lent_memory;
 mod places;
 mod segment_mapping;
 mod shift_mapping;
+mod steps;
 mod table_memory;
 mod validity;
 mod walk;
@@ -29,12 +30,13 @@ pub use lent_memory::LentMemory;
 use places::{is_increasing, SortedPlaces};
 pub use segment_mapping::{SegmentMapping, SegmentRefusal};
 pub use shift_mapping::ShiftMapping;
+pub use steps::{Step, Steps};
 pub use table_memory::TableMemory;
 pub use validity::{
     clear_marks, is_valid_hierarchy, is_valid_hierarchy_57, is_valid_recursive, is_valid_recursive_57, pool_fits, pool_fits_57,
     pool_fits_recursive, pool_fits_recursive_57, HierarchyTest, FRAME_COUNT,
 };
-pub use walk::{has_flag, index_of, page_walk, page_walk as page_walk_57, table_in, Walked};
+pub use walk::{has_flag, index_of, page_walk, page_walk as page_walk_57, span, table_in, Walked};
 
 /// A place in a physical memory: the number under which it holds a table. Contracts see it as this number.
 #[derive(Clone, Copy, Debug, PartialEq)]

@@ -1,50 +1,28 @@
-use Rattle.std.proofs.Common.{arith, ◌≡◌, option_map, sym, ap, ◌∙◌, rules}
+use Rattle.std.proofs.Common.{rules, ◌≡◌, ◌∙◌, None, refl, sym, ap}
+use Rattle.std.specs.List.{last_or}
 use Rattle.x86_64_model.specs.Memory.{words_of}
-use Rattle.x86_64_mappings.specs.declared.walk_entries.WalkEnd.TheVariants.{Page}
-use Rattle.x86_64_c.specs.Arguments.{at}
-use Rattle.x86_64_c.specs.Walks.{result_of_walk, may_execute}
-use Rattle.x86_64_c.proofs.WalkBySteps.{last_within, some_written, tells, tells_nowhere, tells_page}
+use Rattle.x86_64_model.specs.Steps.{rights_in, steps}
+use Rattle.x86_64_tables.proofs.StepsRead.{last_more, read_all, read_more, read_none}
+use Rattle.x86_64_c.specs.Walks.{told_by}
+use Rattle.x86_64_c.proofs.WalkBySteps.{tells}
 use Rattle.x86_64_c.proofs.walk.walk_at.Goals as goal
 
-pub returns-then-ne : goal.returns-then-ne
-returns-then-ne g c =
-    let words = words_of (g.T.TableMemory.tables c.args.memory.now) (g.P.PageTableFrameMapping.places c.args.located.mapping) in
-    let other : c.read_entries-count.result.end ≡ Page → ⊥ = search rules in
-    let nowhere = tells_nowhere g.L.LevelCount.LEVELS words c.args.located.root c.args.address (λ is. other (c.read_entries-count.ensures.end ∙ is)) in
-    let hierarchy = at g.P.PageTableFrameMapping.places g.L.LevelCount.LEVELS c.args.located (g.T.TableMemory.tables c.args.memory.now) in
-    sym (ap (option_map (result_of_walk (may_execute hierarchy c.args.address))) nowhere)
+pub loop-step-init : goal.loop-step-init
+loop-step-init g c = (read_none c.into_iter-step-iterator.result, refl)
 
-pub address_in-requires-clause-low : goal.address_in-requires-clause-low
-address_in-requires-clause-low g c =
-    let is : c.read_entries-count.result.end ≡ Page = search rules in
-    (tells_page g.L.LevelCount.LEVELS (words_of (g.T.TableMemory.tables c.args.memory.now) (g.P.PageTableFrameMapping.places c.args.located.mapping)) c.args.located.root c.args.address _ _ _ _
-    c.read_entries-count.ensures.writes (sym c.read_entries-count.ensures.end ∙ is)).low
-
-pub address_in-requires-clause-high : goal.address_in-requires-clause-high
-address_in-requires-clause-high g c =
-    let is : c.read_entries-count.result.end ≡ Page = search rules in
-    (tells_page g.L.LevelCount.LEVELS (words_of (g.T.TableMemory.tables c.args.memory.now) (g.P.PageTableFrameMapping.places c.args.located.mapping)) c.args.located.root c.args.address _ _ _ _
-    c.read_entries-count.ensures.writes (sym c.read_entries-count.ensures.end ∙ is)).high
+pub loop-step-preserved : goal.loop-step-preserved
+loop-step-preserved g c = rw (c.below-rights.ensures, c.entry.ensures) (
+  read_more _ _ _ _ _ _ c.loop-step.invariant.0 c.in-Some.ensures.steps,
+  sym (last_more None c.loop-step.yielded c.in-Some.step),
+)
 
 pub returns : goal.returns
 returns g c =
     let words = words_of (g.T.TableMemory.tables c.args.memory.now) (g.P.PageTableFrameMapping.places c.args.located.mapping) in
-    let root = c.args.located.root in
     let L = g.L.LevelCount.LEVELS in
-    let is : c.read_entries-count.result.end ≡ Page = search rules in
-    let page = tells_page L words root c.args.address _ _ _ _ c.read_entries-count.ensures.writes (sym c.read_entries-count.ensures.end ∙ is) in
-    rw c.of.ensures (tells L words root c.args.address c.position-position.result _ _ c.address_in.result c.read_entries-count.result.rights page
-    c.read_entries-count.ensures.rights c.position-position.ensures.value c.address_in.ensures)
-
-pub read_entries-count-requires : goal.read_entries-count-requires
-read_entries-count-requires g c = omega (arith, g.L.LevelCount.at_most_five)
-
-pub overflow_sub-page : goal.overflow_sub-page
-overflow_sub-page g c =
-    let is : c.read_entries-count.result.end ≡ Page = search rules in
-    some_written _ _ _ _ c.read_entries-count.ensures.writes (sym c.read_entries-count.ensures.end ∙ is)
-
-pub bounds-entries-count : goal.bounds-entries-count
-bounds-entries-count g c =
-    let is : c.read_entries-count.result.end ≡ Page = search rules in
-    omega (arith, last_within _ _ _ _ c.read_entries-count.ensures.writes (sym c.read_entries-count.ensures.end ∙ is))
+    let root = c.args.located.root in
+    let all : c.into_iter-step-iterator.result ≡ steps words c.args.address L root = search rules in
+    let read = read_all _ _ _ _ c.loop-step.invariant.0 c.in-None.ensures.steps.0 ∙ all in
+    let rights = c.loop-step.invariant.0.rights_are ∙ ap rights_in read in
+    let last = c.loop-step.invariant.1 ∙ ap (last_or None) read in
+    c.told.ensures ∙ (λ i. told_by (c.position.ensures.value i) (rights i) (last i)) ∙ tells L words root c.args.address
