@@ -3,7 +3,7 @@ ghost use Rattle.std.specs.Prelude.{◌≡◌, ◌<◌, ◌≤◌, ◌+◌, ◌*
 ghost use Rattle.std.specs.Option.{option_copied};
 ghost use Rattle.x86_64_model.specs.Entry.{present};
 ghost use Rattle.x86_64_model.specs.Memory.{words_of};
-ghost use Rattle.x86_64_model.specs.Position.{span as span_of, index, position_count};
+ghost use Rattle.x86_64_model.specs.Position.{index, position_count};
 ghost use Rattle.x86_64_tables.specs.EntryTargets.{target_of};
 ghost use Rattle.x86_64_mappings.specs.private.Cursors as cursors;
 
@@ -13,9 +13,7 @@ use x86_64_page::page::Size4KiB;
 use x86_64_tables::page_table::{
     EntryTarget, PageTable, PageTableEntry, PageTableFlags, Rights, has_flag,
 };
-use x86_64_tables::phys_memory::{
-    PageTableFrameMapping, TableMemory, index_of, span, table_in,
-};
+use x86_64_tables::phys_memory::{PageTableFrameMapping, TableMemory, index_of, span, table_in};
 
 /// Where a listing continues: at a position (the number of an address counted without the gap), with the remaining entries
 /// of a table, from the one that spans the position on.
