@@ -6,7 +6,6 @@ use Rattle.serde_json.specs.View.{items_of}
 use Rattle.x86_64_access.specs.Accesses.{outcome_of}
 use Rattle.x86_64_access.specs.declared.controls.Controls.{Controls}
 use Rattle.x86_64_model.specs.Mappings.{Rights, every_right}
-use Rattle.x86_64_tables.specs.Rights.{both}
 use Rattle.ptdump_json.specs.Json.{hexadecimal_string, end_members, json_of_access, json_of_word, with_access}
 use Rattle.ptdump_json.specs.Walks.{End, arrives_at, not_present, no_table, huge_page, Walk, end_text, line, walk_rights, word_lines}
 use Rattle.ptdump_json.specs.declared.access_line.AccessLine.{AccessLine}

@@ -85,7 +85,12 @@ pub fn walk_to<L: LevelCount>(
     let mut words = Vec::new(alloc);
     let mut rights = Rights::ALL;
     let mut end = WalkEnd::MissingTable(loaded.root);
-    for step in Steps::new(loaded.tables.memory(), &IdentityMapping, loaded.root, address) {
+    for step in Steps::new(
+        loaded.tables.memory(),
+        &IdentityMapping,
+        loaded.root,
+        address,
+    ) {
         words.push(WordRead::of(&step))?;
         rights = rights.below(&step.entry());
         end = end_at(position, &step, rights);

@@ -3,7 +3,7 @@ ghost use Rattle.std.specs.Prelude.{◌≡◌, ◌<◌, ◌≤◌, ◌+◌, ◌*
 ghost use Rattle.std.specs.Option.{option_copied};
 ghost use Rattle.x86_64_model.specs.Entry.{present};
 ghost use Rattle.x86_64_model.specs.Memory.{words_of};
-ghost use Rattle.x86_64_model.specs.Position.{span as span_of, index, position_count};
+ghost use Rattle.x86_64_model.specs.Position.{index, position_count};
 ghost use Rattle.x86_64_tables.specs.EntryTargets.{target_of};
 ghost use Rattle.x86_64_mappings.specs.private.Cursors as cursors;
 

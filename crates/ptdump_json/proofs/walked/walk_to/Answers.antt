@@ -10,7 +10,7 @@ use Rattle.ptdump_json.proofs.WalkLaws.{is_walk}
 use Rattle.ptdump_json.proofs.walked.walk_to.Goals as goal
 
 pub loop-step-init : goal.loop-step-init
-loop-step-init g c = (read_none c.into_iter-step-iterator.result, refl, refl)
+loop-step-init g c = (read_none c.into_iter-step-iterator.result, search rules, refl)
 
 pub loop-step-preserved : goal.loop-step-preserved
 loop-step-preserved g c =
