@@ -2,6 +2,7 @@
 use Rattle.std.proofs.Common.{◌≡◌, ℕ, List, [], ◌∷◌, get_or, false, Result, Ok, Err, sym, ap, ◌∙◌, subst, subst₂}
 use Rattle.std.specs.Result.{IfOk, OnErr}
 use Rattle.x86_64_model.specs.Alike.{Alike}
+use Rattle.x86_64_model.specs.Call.{Call}
 use Rattle.x86_64_model.specs.Layout.{Layout}
 use Rattle.x86_64_model.specs.Hierarchy as mapper
 use Rattle.x86_64_model.specs.Hierarchy.{◌laid_in◌, paths, PoolFits}
@@ -10,7 +11,7 @@ use Rattle.x86_64_model.specs.Store.{Store, StoreFits, Keeps}
 use Rattle.x86_64_tables.specs.FramePool.{FreeFrames}
 use Rattle.x86_64_mappers.specs.Layouts.{direct_at}
 use Rattle.x86_64_mappers.specs.Recursive.{recursive_at, recursive_now_at}
-use Rattle.x86_64.specs.Asked.{MapperCall, names_by}
+use Rattle.x86_64.specs.Calls.{names_by}
 use Rattle.x86_64.specs.Pairs.{AreAlike, MayRun, NoCallNames, pool_store}
 use Rattle.x86_64.specs.Replies.{Reply}
 use Rattle.x86_64.specs.Runs.{Ran}
@@ -75,7 +76,7 @@ pub twin_in : (known levels index : ℕ) (frames twin : Frames) → known ≡ le
 twin_in known levels index frames twin same = subst (λ n. IsTwin n index frames twin) (sym same)
 
 -- what a call keeps in a pair, whether it was executed or nothing changed
-pub kept_in_pair : {E : Type 0} (Others : Type 0) (levels : ℕ) (before after : Frames) (call : MapperCall) (result : Result Reply E) → StoreFits (direct_layout levels laid_in before.memory) (pool_store before.pool)
+pub kept_in_pair : {E : Type 0} (Others : Type 0) (levels : ℕ) (before after : Frames) (call : Call) (result : Result Reply E) → StoreFits (direct_layout levels laid_in before.memory) (pool_store before.pool)
     → IfOk result (IsAnswered (direct_layout levels laid_in before.memory) (pool_store before.pool) call (direct_layout levels laid_in after.memory) (pool_store after.pool)) → OnErr result ((after ≡ before) × Others)
     → Keeps (direct_layout levels laid_in before.memory) (pool_store before.pool) (direct_layout levels laid_in after.memory) (pool_store after.pool)
 kept_in_pair Others levels before after call (Ok reply) fits answered unchanged = answered.keeps
@@ -95,14 +96,14 @@ window_stays : (levels index : ℕ) (m n : Memory) (store : Store) → StoreFits
 window_stays levels index m n store fits = ap (λ entry. recursive_at levels 0x1000 (record { index = index; self_entry = entry })) fits.valid.self.is_word
 
 -- one of the mappers may run the call
-pub runs_directly : {C Lent : Type 0} (asks : C → MapperCall) (calls : List C) (levels : ℕ) (h : mapper.Hierarchy Lent) (m : Memory) (pool : FreeFrames) → h.layout ≡ direct_layout levels → h.memory ≡ m
+pub runs_directly : {C Lent : Type 0} (asks : C → Call) (calls : List C) (levels : ℕ) (h : mapper.Hierarchy Lent) (m : Memory) (pool : FreeFrames) → h.layout ≡ direct_layout levels → h.memory ≡ m
     → StoreFits (direct_layout levels laid_in m) (pool_store pool) → MayRun asks levels calls h pool
 runs_directly asks calls levels h m pool lies first fits = record {
   fits = subst₂ (λ (l : Layout) (m : Memory). StoreFits (l laid_in m) (pool_store pool)) (sym lies) (sym first) fits;
   unnamed = subst (λ (l : Layout). NoCallNames asks levels l.window calls) (sym lies) tt;
 }
 
-pub runs_recursively : {C Lent : Type 0} (asks : C → MapperCall) (calls : List C) (levels index : ℕ) (h : mapper.Hierarchy Lent) (m : Memory) (pool : FreeFrames) → h.layout ≡ recursive_layout levels m index → h.memory ≡ m
+pub runs_recursively : {C Lent : Type 0} (asks : C → Call) (calls : List C) (levels index : ℕ) (h : mapper.Hierarchy Lent) (m : Memory) (pool : FreeFrames) → h.layout ≡ recursive_layout levels m index → h.memory ≡ m
     → (call : C) → calls ≡ call ∷ [] → names_by levels (asks call) index ≡ false → StoreFits (recursive_layout levels m index laid_in m) (pool_store pool) → MayRun asks levels calls h pool
 runs_recursively asks calls levels index h m pool lies first call one unnamed fits = record {
   fits = subst₂ (λ (l : Layout) (m : Memory). StoreFits (l laid_in m) (pool_store pool)) (sym lies) (sym first) fits;
@@ -124,7 +125,7 @@ module _ {Lent : Type 0} (levels index : ℕ) (h after : mapper.Hierarchy Lent) 
   fits_after = subst (λ (l : Layout). StoreFits (l laid_in n) (pool_store rest)) (window_stays levels index m n (pool_store rest) fits_still) fits_still
 
 -- a recursive mapper executes a list of one call
-pub answers_recursively : {C Lent : Type 0} (asks : C → MapperCall) (call : C) (calls : List C) (replies : List Reply) (reply : Reply) (levels index : ℕ) (h after : mapper.Hierarchy Lent) (pool rest : FreeFrames) (m n : Memory)
+pub answers_recursively : {C Lent : Type 0} (asks : C → Call) (call : C) (calls : List C) (replies : List Reply) (reply : Reply) (levels index : ℕ) (h after : mapper.Hierarchy Lent) (pool rest : FreeFrames) (m n : Memory)
     → calls ≡ call ∷ [] → Ran asks h (pool_store pool) calls [] replies after rest.frames → Keeps h (pool_store pool) after (pool_store rest) → reply ≡ get_or replies 0 reply
     → h.layout ≡ recursive_layout levels m index → h.memory ≡ m → n ≡ after.memory → AnswersRecursively levels index (record { memory = m; pool = pool }) (asks call) (record { memory = n; pool = rest }) reply
 answers_recursively asks call calls replies reply levels index h after pool rest m n one ran keeps told lies first last =

@@ -5,10 +5,10 @@ use Rattle.std.proofs.lemmas.Option.{cond_some}
 use Rattle.std.proofs.lemmas.Bool.Decides.{Decides-and, Decides-or, Decides-ltb}
 use Rattle.std.specs.Bool.{Decides}
 use Rattle.x86_64_addr.specs.Position.{IsCanonical, lower_half}
-use Rattle.x86_64.specs.Asked.{Translate, TranslateAddr, CleanUpRange}
+use Rattle.x86_64_model.specs.Call.{Translate, TranslateAddress, CleanUp}
 use Rattle.pagetab_engine.specs.Commands.{Call, Command, Walk, Show, Statement, Image, Asks}
 use Rattle.pagetab_engine.specs.Fields.{Parts, fields_of, parts_in, short_parts}
-use Rattle.pagetab_engine.specs.PageCalls.{bytes_of, call_in, of_size, page_call_in}
+use Rattle.pagetab_engine.specs.PageCalls.{call_in, level_of}
 use Rattle.pagetab_engine.specs.Slot.{slot_at, slot_in}
 use Rattle.pagetab_engine.specs.Starts.{address_in, index_in, is_canonical_number, is_frame_start, is_table_start, page_in, table_in}
 use Rattle.pagetab_engine.specs.Statements.{plain_in, statement_by, statement_in, statement_of_fields}
@@ -34,13 +34,13 @@ plain_of_more : (levels places : ℕ) (name : Name) (a b c d e : ℕ) (rest : Li
 plain_of_more levels places name.Word a b c d e rest = refl
 plain_of_more levels places name a b c d e rest = refl
 
-paged_of_more : (levels bytes : ℕ) (name : Name) (a b c d e : ℕ) (rest : List ℕ) → page_call_in levels bytes name (a ∷ b ∷ c ∷ d ∷ e ∷ rest) ≡ None
-paged_of_more levels bytes name.Map a b c d e rest = refl
-paged_of_more levels bytes name a b c d e rest = refl
+paged_of_more : (levels level : ℕ) (name : Name) (a b c d e : ℕ) (rest : List ℕ) → call_in levels level name (a ∷ b ∷ c ∷ d ∷ e ∷ rest) ≡ None
+paged_of_more levels level name.Map a b c d e rest = refl
+paged_of_more levels level name a b c d e rest = refl
 
 none_of_more : (levels places : ℕ) (name : Name) (size : Option Size) (a b c d e : ℕ) (rest : List ℕ) → statement_by levels places name size (a ∷ b ∷ c ∷ d ∷ e ∷ rest) ≡ None
 none_of_more levels places name None a b c d e rest = plain_of_more levels places name a b c d e rest
-none_of_more levels places name (Some size) a b c d e rest = ap (λ call. option_map (λ call. Asks (Call call)) (option_map (of_size size) call)) (paged_of_more levels (bytes_of size) name a b c d e rest)
+none_of_more levels places name (Some size) a b c d e rest = ap (option_map (λ call. Asks (Call call))) (paged_of_more levels (level_of size) name a b c d e rest)
 
 few : (numbers : List ℕ) → nat_le (length numbers) 4 ≡ false → length numbers ≤ 4 → ⊥
 few numbers many short = true≢false (sym (le-leb (length numbers) 4 short) ∙ many)
@@ -99,18 +99,18 @@ plain_shown levels places name.Free (frame ∷ []) slot is = absurd (no_show (λ
 plain_shown levels places name.Pool [] slot is = cc
 plain_shown levels places name.Walk (addr ∷ []) slot is = absurd (no_show (λ address. Asks (Walk address)) slot (address_in levels addr) (λ a e. cc) is)
 plain_shown levels places name.Translate (addr ∷ []) slot is = absurd (no_show (λ address. Asks (Call (Translate address))) slot (address_in levels addr) (λ a e. cc) is)
-plain_shown levels places name.Addr (addr ∷ []) slot is = absurd (no_show (λ address. Asks (Call (TranslateAddr address))) slot (address_in levels addr) (λ a e. cc) is)
+plain_shown levels places name.Addr (addr ∷ []) slot is = absurd (no_show (λ address. Asks (Call (TranslateAddress address))) slot (address_in levels addr) (λ a e. cc) is)
 plain_shown levels places name.CleanUp [] slot is = cc
 plain_shown levels places name.CleanUpRange (first ∷ last ∷ []) slot is = by (page_in levels 4096 first) is
   where
-    by : (start : Option ℕ) → option_and_then (λ first. option_map (λ last. Asks (Call (CleanUpRange first (last + 0xfff)))) (page_in levels 4096 last)) start ≡ Some (Asks (Show slot)) → IsShown (Show slot)
+    by : (start : Option ℕ) → option_and_then (λ first. option_map (λ last. Asks (Call (CleanUp first (last + 0xfff)))) (page_in levels 4096 last)) start ≡ Some (Asks (Show slot)) → IsShown (Show slot)
     by None is = cc
-    by (Some first) is = absurd (no_show (λ last. Asks (Call (CleanUpRange first (last + 0xfff)))) slot (page_in levels 4096 last) (λ a e. cc) is)
+    by (Some first) is = absurd (no_show (λ last. Asks (Call (CleanUp first (last + 0xfff)))) slot (page_in levels 4096 last) (λ a e. cc) is)
 plain_shown levels places name numbers slot is = cc
 
 shown_by : (levels places : ℕ) (name : Name) (size : Option Size) (numbers : List ℕ) (slot : Slot) → statement_by levels places name size numbers ≡ Some (Asks (Show slot)) → IsShown (Show slot)
 shown_by levels places name None numbers slot is = plain_shown levels places name numbers slot is
-shown_by levels places name (Some size) numbers slot is = absurd (no_show (λ call. Asks (Call call)) slot (call_in levels size name numbers) (λ a e. cc) is)
+shown_by levels places name (Some size) numbers slot is = absurd (no_show (λ call. Asks (Call call)) slot (call_in levels (level_of size) name numbers) (λ a e. cc) is)
 
 pub shown : (levels places : ℕ) (line : List ℕ) (command : Command) → statement_in levels places line ≡ Some (Asks command) → IsShown command
 shown levels places line (Call call) says = tt

@@ -1,7 +1,8 @@
 -- What is said of a call that names the recursive index of a pair, and so isn't executed, and of one that is.
 use Rattle.std.proofs.Common.{◌≡◌, ℕ, true, false, cond, [], Some, option_map, refl, sym, ap, ◌∙◌, subst}
+use Rattle.x86_64_model.specs.Call as model
 use Rattle.x86_64_model.specs.Layout.{Layout}
-use Rattle.x86_64.specs.Asked.{MapperCall, machine_call, names_by}
+use Rattle.x86_64.specs.Calls.{names_by}
 use Rattle.x86_64.specs.FreeFrames.{back_by}
 use Rattle.x86_64.specs.Pairs.{pool_store}
 use Rattle.x86_64.specs.Replies.{Reply}
@@ -21,10 +22,10 @@ use Rattle.pagetab_engine.specs.declared.hierarchy.Hierarchy.{Hierarchy}
 use Rattle.pagetab_engine.proofs.Keeping.{free_itself, keeps_itself}
 
 -- whether a call is refused, by the mode's number of levels
-pub refused_by : (mode : Mode) (levels : ℕ) (call : MapperCall) → count (levels_of mode) ≡ levels → is_refused mode call ≡ is_index_named mode (names_by levels call)
+pub refused_by : (mode : Mode) (levels : ℕ) (call : model.Call) → count (levels_of mode) ≡ levels → is_refused mode call ≡ is_index_named mode (names_by levels call)
 refused_by mode levels call same = ap (λ n. is_index_named mode (names_by n call)) same
 
-module _ (hierarchy : Hierarchy) (call : MapperCall) where
+module _ (hierarchy : Hierarchy) (call : model.Call) where
   -- the call is not allowed, and changes nothing
   abbrev refused : AfterStep Reply
   refused = record { state = hierarchy_state hierarchy; reply = Some NotAllowed }
@@ -37,7 +38,7 @@ module _ (hierarchy : Hierarchy) (call : MapperCall) where
         reply = λ _. ap (λ (after : AfterStep Reply). option_map Answered after.reply) step;
         state = sym (ap (λ (after : AfterStep Reply). after.state) step);
         reads = λ _. refl;
-        free = free_itself hierarchy _ (ap (λ b. cond b [] (back_by machine (hierarchy_state hierarchy) (machine_call machine.levels call))) is);
+        free = free_itself hierarchy _ (ap (λ b. cond b [] (back_by machine (hierarchy_state hierarchy) call)) is);
         keeps = keeps_itself hierarchy fits;
         both = λ executed. absurd (let t : true ≡ false = sym is ∙ executed in cc);
       }
@@ -49,8 +50,8 @@ module _ (hierarchy : Hierarchy) (call : MapperCall) where
       let machine = situation_machine (situation_of hierarchy) in
       let step : call_step (situation_of hierarchy) call ≡ record { state = runs.state_in (layout_of hierarchy) after.frames.memory after.frames.pool.frames; reply = Some reply } =
       ap (λ b. cond b refused (runs.step_by machine (hierarchy_state hierarchy) call)) is ∙ answered.step in
-      let back : call_back (situation_of hierarchy) call ≡ back_by machine (hierarchy_state hierarchy) (machine_call machine.levels call) =
-      ap (λ b. cond b [] (back_by machine (hierarchy_state hierarchy) (machine_call machine.levels call))) is in
+      let back : call_back (situation_of hierarchy) call ≡ back_by machine (hierarchy_state hierarchy) call =
+      ap (λ b. cond b [] (back_by machine (hierarchy_state hierarchy) call)) is in
       record {
         reply = λ _. ap (λ (after : AfterStep Reply). option_map Answered after.reply) step;
         state = ap (λ (l : Layout). runs.state_in l after.frames.memory after.frames.pool.frames) keeps.keeps.layout ∙ sym (ap (λ (after : AfterStep Reply). after.state) step);

@@ -1,12 +1,12 @@
 -- What commands act on after a command, as a function, is what the hierarchy has then.
 use Rattle.std.proofs.Common.{◌≡◌, ℕ, List, Option, Some, sym, ap, ◌∙◌, subst}
+use Rattle.x86_64_model.specs.Call as model
 use Rattle.x86_64_model.specs.Layout.{Layout}
 use Rattle.x86_64_model.specs.Machine.{State}
 use Rattle.x86_64_model.specs.Hierarchy.{◌laid_in◌, words}
 use Rattle.x86_64_model.specs.Memory.{IsMapping, Memory, Places, identity_places, word, words_of}
 use Rattle.x86_64_model.specs.Pool.{serves_below}
 use Rattle.x86_64_model.proofs.Lemmas.Hierarchies.Memories.{identity_is_mapping}
-use Rattle.x86_64.specs.Asked.{MapperCall}
 use Rattle.x86_64.specs.Runs as runs
 use Rattle.pagetab_engine.specs.Commands.{Command, Call, Walk, Show}
 use Rattle.pagetab_engine.specs.Commands as command
@@ -21,7 +21,7 @@ use Rattle.pagetab_engine.specs.private.RunParts.{AnswersCommand, IsShown, situa
 use Rattle.pagetab_engine.proofs.Keeping.{by_number}
 use Rattle.pagetab_engine.proofs.TableWords.{words_told}
 
-module _ (call : MapperCall) (before after : Hierarchy) (reply : Reply) (answers : AnswersCommand (Call call) before reply after) where
+module _ (call : model.Call) (before after : Hierarchy) (reply : Reply) (answers : AnswersCommand (Call call) before reply after) where
   abbrev m : Memory
   m = before.frames.memory
 

@@ -1,5 +1,6 @@
 -- The hierarchy that the program reads, or two with one image in a pair, as a machine.
 use Rattle.std.specs.Prelude.{◌≡◌, ℕ, ⊤, false, List}
+use Rattle.x86_64_model.specs.Call.{Call}
 use Rattle.x86_64_model.specs.Layout.{Layout}
 use Rattle.x86_64_model.specs.Hierarchy as mapper
 use Rattle.x86_64_model.specs.Hierarchy.{◌laid_in◌}
@@ -7,7 +8,6 @@ use Rattle.x86_64_model.specs.Machine.{State}
 use Rattle.x86_64_model.specs.Memory.{Memory}
 use Rattle.x86_64_model.specs.Store.{StoreFits, Keeps}
 use Rattle.x86_64_mappers.specs.Offsets.{OffsetFits}
-use Rattle.x86_64.specs.Asked.{MapperCall}
 use Rattle.x86_64.specs.FreeFrames.{KeepsFree as KeepsFreeFrames}
 use Rattle.x86_64.specs.Pairs.{AreAlike, pool_store}
 use Rattle.x86_64.specs.Runs as runs
@@ -55,17 +55,17 @@ abbrev pub KeepsFree : (before : Hierarchy) → (back : List ℕ) → (after : H
 KeepsFree before back after = KeepsFreeFrames (layout_of before) before.frames.memory before.frames.pool.frames back after.frames.memory after.frames.pool.frames
 
 -- The recursive mapper executes the call in these frames, with this reply.
-abbrev pub AnswersRecursively : (levels index : ℕ) (before : Frames) → MapperCall → (after : Frames) → Reply → Type 0
-AnswersRecursively levels index before asked after reply =
-    IsAnswered (recursive_layout levels before.memory index laid_in before.memory) (pool_store before.pool) asked (recursive_layout levels after.memory index laid_in after.memory) (pool_store after.pool) reply
+abbrev pub AnswersRecursively : (levels index : ℕ) (before : Frames) → Call → (after : Frames) → Reply → Type 0
+AnswersRecursively levels index before call after reply =
+    IsAnswered (recursive_layout levels before.memory index laid_in before.memory) (pool_store before.pool) call (recursive_layout levels after.memory index laid_in after.memory) (pool_store after.pool) reply
 
 -- In a pair the recursive mapper executes the call, too, with this reply.
-abbrev pub TwinTells : Mode → (asked : MapperCall) → (before after : Frames) → Reply → Type 0
-TwinTells (Pair levels index) asked before after reply = AnswersRecursively (count levels) index before asked after reply
-TwinTells mode asked before after reply = ⊤
+abbrev pub TwinTells : Mode → (call : Call) → (before after : Frames) → Reply → Type 0
+TwinTells (Pair levels index) call before after reply = AnswersRecursively (count levels) index before call after reply
+TwinTells mode call before after reply = ⊤
 
 -- In a pair the recursive mapper executes the call with this reply, unless no mapper executes it.
-abbrev pub BothAnswer : Mode → MapperCall → Reply → (before after : Frames) → Type 0
+abbrev pub BothAnswer : Mode → Call → Reply → (before after : Frames) → Type 0
 BothAnswer mode call reply before after = is_refused mode call ≡ false → TwinTells mode call before after reply
 
 -- The mapper of the mode reaches each place of the memory. Only an offset may be such that it doesn't.

@@ -1,9 +1,10 @@
 -- The modes: the mapper that tests the image, the mapper that executes the commands, and whether it reaches each place.
 use Rattle.std.specs.Prelude.{◌+◌, ◌*◌, ◌&&◌, zero, suc, ℕ, Bool, true, false}
+use Rattle.x86_64_model.specs.Call.{Call}
 use Rattle.x86_64_model.specs.Layout.{Layout}
 use Rattle.x86_64_model.specs.Memory.{Memory}
 use Rattle.x86_64_model.specs.Position.{raw}
-use Rattle.x86_64.specs.Asked.{MapperCall, names_by}
+use Rattle.x86_64.specs.Calls.{names_by}
 use Rattle.pagetab_engine.specs.Arguments.{count, levels_of}
 use Rattle.pagetab_engine.specs.Frames.{direct_layout, recursive_layout, without_self_entry}
 use Rattle.pagetab_engine.specs.Starts.{is_canonical_number}
@@ -33,7 +34,7 @@ is_index_named (Pair levels index) names = names index
 is_index_named mode names = false
 
 -- Whether no mapper executes the call: its page or address has the recursive index of a pair.
-abbrev pub is_refused : Mode → MapperCall → Bool
+abbrev pub is_refused : Mode → Call → Bool
 is_refused mode call = is_index_named mode (names_by (count (levels_of mode)) call)
 
 -- Whether the sum of the address at this position and of a frame's address is canonical, for each of so many places.

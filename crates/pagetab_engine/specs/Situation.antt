@@ -1,11 +1,11 @@
 -- What commands act on, and what they do to it.
 use Rattle.std.specs.Prelude.{◌*◌, ℕ, cond, List, [], map, Option, Some, option_map}
+use Rattle.x86_64_model.specs.Call as model
 use Rattle.x86_64_model.specs.Layout.{Layout}
 use Rattle.x86_64_model.specs.Machine.{Machine, State}
 use Rattle.x86_64_model.specs.Memory.{Memory, Words, identity_places, word, words_of}
 use Rattle.x86_64_model.specs.PageWalk.{page_walk}
 use Rattle.x86_64_model.specs.Path.{indices}
-use Rattle.x86_64.specs.Asked.{MapperCall, machine_call}
 use Rattle.x86_64.specs.FreeFrames.{back_by}
 use Rattle.x86_64.specs.Pairs.{put_first}
 use Rattle.x86_64.specs.Replies.{Reply as CallReply}
@@ -38,12 +38,12 @@ abbrev pub situation_machine : Situation → Machine
 situation_machine s = runs.machine_of s.layout put_first
 
 -- The result of a call: the machine's step, or `NotAllowed` with no change if no mapper executes the call.
-abbrev pub call_step : Situation → MapperCall → AfterStep CallReply
+abbrev pub call_step : Situation → model.Call → AfterStep CallReply
 call_step s call = cond (is_refused s.mode call) (record { state = s.state; reply = Some NotAllowed }) (runs.step_by (situation_machine s) s.state call)
 
 -- The frames that a call returns if a mapper executes it: those of the tables that a clean up removes.
-abbrev pub call_back : Situation → MapperCall → List ℕ
-call_back s call = cond (is_refused s.mode call) [] (back_by (situation_machine s) s.state (machine_call s.layout.levels call))
+abbrev pub call_back : Situation → model.Call → List ℕ
+call_back s call = cond (is_refused s.mode call) [] (back_by (situation_machine s) s.state call)
 
 -- A table of 512 words in each frame.
 abbrev pub tables_with : (words : ℕ → ℕ → ℕ) → Words

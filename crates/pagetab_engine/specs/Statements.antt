@@ -1,9 +1,10 @@
 -- How lines write statements: a name, SIZE for statements about a page of a size, and numbers.
-use Rattle.std.specs.Prelude.{◌+◌, nat_le, ℕ, cond, length, List, [], ◌∷◌, Option, Some, None, option_and_then, option_map}
-use Rattle.x86_64.specs.Asked.{Translate, TranslateAddr, CleanUp, CleanUpRange}
+use Rattle.std.specs.Prelude.{◌+◌, ◌-◌, nat_le, ℕ, cond, length, List, [], ◌∷◌, Option, Some, None, option_and_then, option_map}
+use Rattle.x86_64_model.specs.Call.{Translate, TranslateAddress, CleanUp}
+use Rattle.x86_64_model.specs.Position.{position_count}
 use Rattle.pagetab_engine.specs.Commands.{Call, Walk, Show, Pool, Statement, Image, Asks}
 use Rattle.pagetab_engine.specs.Fields.{fields_of, parts_in}
-use Rattle.pagetab_engine.specs.PageCalls.{call_in}
+use Rattle.pagetab_engine.specs.PageCalls.{call_in, level_of}
 use Rattle.pagetab_engine.specs.Slot.{slot_in}
 use Rattle.pagetab_engine.specs.Starts.{address_in, page_in, table_in}
 use Rattle.pagetab_engine.specs.declared.fields.Name.{Name}
@@ -20,16 +21,16 @@ plain_in levels places name.Show (frame ∷ index ∷ []) = option_map (λ slot.
 plain_in levels places name.Pool [] = Some (Asks Pool)
 plain_in levels places name.Walk (addr ∷ []) = option_map (λ address. Asks (Walk address)) (address_in levels addr)
 plain_in levels places name.Translate (addr ∷ []) = option_map (λ address. Asks (Call (Translate address))) (address_in levels addr)
-plain_in levels places name.Addr (addr ∷ []) = option_map (λ address. Asks (Call (TranslateAddr address))) (address_in levels addr)
-plain_in levels places name.CleanUp [] = Some (Asks (Call CleanUp))
+plain_in levels places name.Addr (addr ∷ []) = option_map (λ address. Asks (Call (TranslateAddress address))) (address_in levels addr)
+plain_in levels places name.CleanUp [] = Some (Asks (Call (CleanUp 0 (position_count levels - 1))))
 plain_in levels places name.CleanUpRange (first ∷ last ∷ []) =
-    option_and_then (λ first. option_map (λ last. Asks (Call (CleanUpRange first (last + 0xfff)))) (page_in levels 4096 last)) (page_in levels 4096 first)
+    option_and_then (λ first. option_map (λ last. Asks (Call (CleanUp first (last + 0xfff)))) (page_in levels 4096 last)) (page_in levels 4096 first)
 plain_in levels places name numbers = None
 
 -- The statement that a name, a size if there is one, and numbers write, for this number of levels and of places, if they write one.
 abbrev pub statement_by : (levels places : ℕ) → Name → Option Size → (numbers : List ℕ) → Option Statement
 statement_by levels places name None numbers = plain_in levels places name numbers
-statement_by levels places name (Some size) numbers = option_map (λ call. Asks (Call call)) (call_in levels size name numbers)
+statement_by levels places name (Some size) numbers = option_map (λ call. Asks (Call call)) (call_in levels (level_of size) name numbers)
 
 -- The statement that the fields of a line write, if they write one for this number of levels and of places.
 abbrev pub statement_of_fields : (levels places : ℕ) → (line : List ℕ) → Option Statement

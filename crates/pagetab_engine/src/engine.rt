@@ -140,7 +140,7 @@ fn read_image<L: LevelCount, P5: LevelFiveFlags<L>, R: Read>(
     requires reached { ReachesAll hierarchy.old }
     ensures read { IfOk result (λ first.
         TracesBack (MayBeLeft R.remaining lines.old) (MayBeLeft R.remaining lines.new) (λ all behind.
-        LoadsImage L.LEVELS places all hierarchy.old (option_map (command_of P5.bits) first) behind
+        LoadsImage L.LEVELS places all hierarchy.old (option_map (command_of L.LEVELS P5.bits) first) behind
         hierarchy.new)) }
     ensures stopped { IfErr result (λ fault. ForSome (MayBeLeft R.remaining lines.old) (λ all.
         StopsInImage L.LEVELS places all hierarchy.old fault)) }
@@ -173,7 +173,7 @@ fn answer_commands<L: LevelCount, P5: LevelFiveFlags<L>, R: Read, W: Write>(
     requires fits { IsHierarchy hierarchy.old }
     requires levels { count (levels_of hierarchy.old.mode) ≡ L.LEVELS }
     ensures { ForSome (MayBeLeft R.remaining lines.old) (λ behind.
-        Served L.LEVELS places (command_of P5.bits first) behind hierarchy.old
+        Served L.LEVELS places (command_of L.LEVELS P5.bits first) behind hierarchy.old
         (W.contents writer.old) (W.contents writer.new) (ending_of result)) }
 {
     write_reply(alloc, hierarchy, first, writer)?;
@@ -195,10 +195,10 @@ fn write_reply<L: LevelCount, P5: LevelFiveFlags<L>, W: Write>(
 ) -> Result<(), Fault>
     requires fits { IsHierarchy hierarchy.old }
     requires levels { count (levels_of hierarchy.old.mode) ≡ L.LEVELS }
-    ensures answered { OnOk result (Replies (command_of P5.bits command) hierarchy.old hierarchy.new
-        (W.contents writer.old) (W.contents writer.new)) }
-    ensures stopped { IfErr result (CommandStops (command_of P5.bits command) hierarchy.old hierarchy.new
-        (W.contents writer.old) (W.contents writer.new)) }
+    ensures answered { OnOk result (Replies (command_of L.LEVELS P5.bits command)
+        hierarchy.old hierarchy.new (W.contents writer.old) (W.contents writer.new)) }
+    ensures stopped { IfErr result (CommandStops (command_of L.LEVELS P5.bits command)
+        hierarchy.old hierarchy.new (W.contents writer.old) (W.contents writer.new)) }
     ensures keeps { KeepsHierarchy hierarchy.old hierarchy.new }
 {
     let reply = answer(alloc, hierarchy, command)?;
@@ -248,7 +248,7 @@ fn answer<L: LevelCount, P5: LevelFiveFlags<L>>(
     requires fits { IsHierarchy hierarchy.old }
     requires levels { count (levels_of hierarchy.old.mode) ≡ L.LEVELS }
     ensures answers { IfOk result (λ reply.
-        AnswersCommand (command_of P5.bits command) hierarchy.old (reply_of reply) hierarchy.new) }
+        AnswersCommand (command_of L.LEVELS P5.bits command) hierarchy.old (reply_of reply) hierarchy.new) }
     ensures unchanged { OnErr result (hierarchy.new ≡ hierarchy.old) }
 {
     Ok(match command {

@@ -30,7 +30,8 @@ pub fn answer_direct<L: LevelCount, P5: LevelFiveFlags<L>>(
 ) -> ReplyIn<L>
     requires { StoreFits (direct_layout L.LEVELS laid_in frames.old.memory) (pool_store frames.old.pool) }
     ensures { IsAnswered
-        (direct_layout L.LEVELS laid_in frames.old.memory) (pool_store frames.old.pool) (to_call P5.bits call)
+        (direct_layout L.LEVELS laid_in frames.old.memory) (pool_store frames.old.pool)
+        (to_call L.LEVELS P5.bits call)
         (direct_layout L.LEVELS laid_in frames.new.memory) (pool_store frames.new.pool) result }
 {
     let memory = &mut frames.memory;
@@ -50,7 +51,8 @@ pub fn answer_at_offset<L: LevelCount, P5: LevelFiveFlags<L>>(
         (pool_store frames.old.pool) }
     requires offset { OffsetFits L.LEVELS frames.old.memory phys_offset }
     ensures answered { IsAnswered
-        (direct_layout L.LEVELS laid_in frames.old.memory) (pool_store frames.old.pool) (to_call P5.bits call)
+        (direct_layout L.LEVELS laid_in frames.old.memory) (pool_store frames.old.pool)
+        (to_call L.LEVELS P5.bits call)
         (direct_layout L.LEVELS laid_in frames.new.memory) (pool_store frames.new.pool) result }
     ensures offset { OffsetFits L.LEVELS frames.new.memory phys_offset }
 {
@@ -70,7 +72,7 @@ pub fn answer_recursively<L: LevelCount, P5: LevelFiveFlags<L>>(
 ) -> ReplyIn<L>
     requires { StoreFits (recursive_layout L.LEVELS frames.old.memory index laid_in frames.old.memory)
         (pool_store frames.old.pool) }
-    ensures { AnswersRecursively L.LEVELS index frames.old (to_call P5.bits call) frames.new result }
+    ensures { AnswersRecursively L.LEVELS index frames.old (to_call L.LEVELS P5.bits call) frames.new result }
 {
     let active = Active::<L>::new(&mut frames.memory, root());
     let mut mapper = RecursivePageTableIn::<L>::new_unchecked(active, index);
@@ -98,9 +100,11 @@ pub fn answer_by_both<L: LevelCount, P5: LevelFiveFlags<L>>(
     requires twin { IsTwin L.LEVELS index frames.old twin.old }
     requires unnamed { names L.LEVELS P5.bits call index ≡ false }
     ensures answered { IfOk result (IsAnswered
-        (direct_layout L.LEVELS laid_in frames.old.memory) (pool_store frames.old.pool) (to_call P5.bits call)
+        (direct_layout L.LEVELS laid_in frames.old.memory) (pool_store frames.old.pool)
+        (to_call L.LEVELS P5.bits call)
         (direct_layout L.LEVELS laid_in frames.new.memory) (pool_store frames.new.pool)) }
-    ensures both { IfOk result (AnswersRecursively L.LEVELS index twin.old (to_call P5.bits call) twin.new) }
+    ensures both { IfOk result (
+        AnswersRecursively L.LEVELS index twin.old (to_call L.LEVELS P5.bits call) twin.new) }
     ensures unchanged { OnErr result ((frames.new ≡ frames.old) × (twin.new ≡ twin.old)) }
     ensures twin { IsTwin L.LEVELS index frames.new twin.new }
 {

@@ -157,7 +157,7 @@ impl Hierarchy {
         requires fits { IsHierarchy self.old }
         requires levels { count (levels_of self.old.mode) ≡ L.LEVELS }
         ensures answers { IfOk result (λ reply.
-            AnswersCommand (Call (to_call P5.bits call)) self.old (Answered reply) self.new) }
+            AnswersCommand (Call (to_call L.LEVELS P5.bits call)) self.old (Answered reply) self.new) }
         ensures unchanged { OnErr result (self.new ≡ self.old) }
     {
         if self.mode.is_named(&call) {
@@ -180,10 +180,10 @@ impl Hierarchy {
         requires levels { count (levels_of self.old.mode) ≡ L.LEVELS }
         requires unnamed { is_index_named self.old.mode (names L.LEVELS P5.bits call) ≡ false }
         ensures answered { IfOk result (IsAnswered
-            (hierarchy_of self.old) (pool_store self.old.frames.pool) (to_call P5.bits call)
+            (hierarchy_of self.old) (pool_store self.old.frames.pool) (to_call L.LEVELS P5.bits call)
             (hierarchy_of self.new) (pool_store self.new.frames.pool)) }
         ensures both { IfOk result (
-            TwinTells self.old.mode (to_call P5.bits call) self.old.twin self.new.twin) }
+            TwinTells self.old.mode (to_call L.LEVELS P5.bits call) self.old.twin self.new.twin) }
         ensures unchanged { OnErr result (self.new ≡ self.old) }
         ensures keeps { KeepsHierarchy self.old self.new }
     {

@@ -74,7 +74,7 @@ impl<R: Read> Lines<'_, R> {
         ensures next { IfOk result (λ next.
             TracesBack (MayBeLeft R.remaining self.old) (MayBeLeft R.remaining self.new) (λ lines rest.
             ReadsStatement L.LEVELS places lines self.new.number rest
-            (option_map (statement_of P5.bits) next))) }
+            (option_map (statement_of L.LEVELS P5.bits) next))) }
         ensures counted { IfOk result (λ next. IfSome next (λ _. IsCounted self.old.number self.new.number)) }
         ensures why { IfErr result (λ fault. ForSome (MayBeLeft R.remaining self.old) (λ lines.
             ExplainsRead L.LEVELS places lines fault)) }

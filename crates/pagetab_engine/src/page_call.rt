@@ -1,8 +1,9 @@
 //! Calls on pages, as lines write them.
 ghost use Rattle.std.specs.Prelude.{◌≡◌, [], ◌∷◌, option_map};
-ghost use Rattle.x86_64.specs.Calls.{to_call, size_asks};
+ghost use Rattle.x86_64_model.specs.Position.{span};
+ghost use Rattle.x86_64.specs.Calls.{page_call, to_call};
 ghost use Rattle.pagetab_engine.specs.Starts.{frame_in, page_in};
-ghost use Rattle.pagetab_engine.specs.PageCalls.{call_in, page_call_in};
+ghost use Rattle.pagetab_engine.specs.PageCalls.{call_in, level_of};
 
 use crate::fields::{Name, Size};
 use bitflags::Flags;
@@ -17,7 +18,8 @@ pub fn parse_call<L: LevelCount, P5: LevelFiveFlags<L>>(
     size: Size,
     numbers: &[u64],
 ) -> Option<CallIn<L, P5>>
-    ensures { option_map (to_call P5.bits) result ≡ call_in L.LEVELS size name numbers.now }
+    ensures { option_map (to_call L.LEVELS P5.bits) result
+        ≡ call_in L.LEVELS (level_of size) name numbers.now }
 {
     Some(match size {
         Size::Size4KiB => CallIn::Of4KiB(parse_size_call(name, numbers)?),
@@ -31,7 +33,8 @@ fn parse_size_call<S: PageSize, L: LevelCount, P5: LevelFiveFlags<L>>(
     name: Name,
     numbers: &[u64],
 ) -> Option<SizeCallIn<S, L, P5>>
-    ensures { option_map (size_asks P5.bits) result ≡ page_call_in L.LEVELS S.SIZE name numbers.now }
+    ensures { option_map (page_call S.LEVEL P5.bits) result
+        ≡ call_in L.LEVELS S.LEVEL name numbers.now }
 {
     match (name, numbers) {
         (_, [start, flags]) => parse_flags_call(name, *start, *flags),
@@ -64,8 +67,8 @@ fn parse_flags_call<S: PageSize, L: LevelCount, P5: LevelFiveFlags<L>>(
     start: u64,
     flags: u64,
 ) -> Option<SizeCallIn<S, L, P5>>
-    ensures { option_map (size_asks P5.bits) result
-        ≡ page_call_in L.LEVELS S.SIZE name (start ∷ flags ∷ []) }
+    ensures { option_map (page_call S.LEVEL P5.bits) result
+        ≡ call_in L.LEVELS S.LEVEL name (start ∷ flags ∷ []) }
 {
     let flags = PageTableFlags::from_bits_retain(flags);
     Some(match name {
@@ -100,7 +103,7 @@ fn parse_flags_call<S: PageSize, L: LevelCount, P5: LevelFiveFlags<L>>(
 /// Returns the page that starts at an address, or `None` if the address isn't canonical or isn't a multiple of the
 /// size.
 pub fn page_at<S: PageSize, L: LevelCount>(start: u64) -> Option<PageIn<S, L>>
-    ensures { result ≡ page_in L.LEVELS S.SIZE start }
+    ensures { result ≡ page_in L.LEVELS (span S.LEVEL) start }
 {
     let address = VirtAddrIn::checked_new(start)?;
     PageIn::from_start_address(address).ok()
@@ -109,7 +112,7 @@ pub fn page_at<S: PageSize, L: LevelCount>(start: u64) -> Option<PageIn<S, L>>
 /// Returns the frame that starts at an address, or `None` if the address isn't below 2^52 or isn't a multiple of the
 /// size.
 fn frame_at<S: PageSize>(start: u64) -> Option<PhysFrame<S>>
-    ensures { result ≡ frame_in S.SIZE start }
+    ensures { result ≡ frame_in (span S.LEVEL) start }
 {
     match PhysAddr::try_new(start) {
         Ok(address) => PhysFrame::from_start_address(address).ok(),

@@ -45,7 +45,8 @@ impl<L: LevelCount, P5: LevelFiveFlags<L>> Statement<L, P5> {
     /// Parses a line without its line feed, for a memory with this number of places. Returns `None` if and only if
     /// the line is no statement.
     pub fn parse(line: &[u8], places: u64) -> Option<Self>
-        ensures { option_map (statement_of P5.bits) result ≡ statement_of_fields L.LEVELS places line.now }
+        ensures { option_map (statement_of L.LEVELS P5.bits) result
+            ≡ statement_of_fields L.LEVELS places line.now }
     {
         let fields = Fields::parse(str::from_utf8(line).ok()?)?;
         Self::from_fields(fields.name, fields.size, fields.numbers(), places)
@@ -53,7 +54,7 @@ impl<L: LevelCount, P5: LevelFiveFlags<L>> Statement<L, P5> {
 
     /// Returns the statement that fields write, or `None` if there is none.
     fn from_fields(name: Name, size: Option<Size>, numbers: &[u64], places: u64) -> Option<Self>
-        ensures { option_map (statement_of P5.bits) result
+        ensures { option_map (statement_of L.LEVELS P5.bits) result
             ≡ statement_by L.LEVELS places name size numbers.now }
     {
         match size {
@@ -67,7 +68,8 @@ impl<L: LevelCount, P5: LevelFiveFlags<L>> Statement<L, P5> {
 
     /// The part of [`from_fields`](Self::from_fields) for lines without SIZE.
     fn from_plain_fields(name: Name, numbers: &[u64], places: u64) -> Option<Self>
-        ensures { option_map (statement_of P5.bits) result ≡ plain_in L.LEVELS places name numbers.now }
+        ensures { option_map (statement_of L.LEVELS P5.bits) result
+            ≡ plain_in L.LEVELS places name numbers.now }
     {
         match (name, numbers) {
             (Name::Word, [frame, index, value]) => Some(Statement::Image(ImageLine::Word {

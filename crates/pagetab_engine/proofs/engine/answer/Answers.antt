@@ -21,7 +21,7 @@ pub returns-clause-answers : goal.returns-clause-answers
 returns-clause-answers g c = let before = c.args.hierarchy.now in let tables = words_of before.frames.memory identity_places in elim c.match-command.branch [
   | in-Call+in_ok-answer_call-in-Call w ↦ rw (w.hierarchy-is, w.in-Call.is, w.result-is)
       (let is : w.answer_call.result ≡ Ok w.in_ok-answer_call-in-Call.field-0 = search rules in
-      let answers : CallReply → Type 0 = λ reply. AnswersCommand (Call (to_call g.P5.LevelFiveFlags.bits w.in-Call.call)) before (Answered reply) w.answer_call.new.self in
+      let answers : CallReply → Type 0 = λ reply. AnswersCommand (Call (to_call g.L.LevelCount.LEVELS g.P5.LevelFiveFlags.bits w.in-Call.call)) before (Answered reply) w.answer_call.new.self in
       let told : IfOk w.answer_call.result answers = w.answer_call.ensures.answers in
       subst (λ r. IfOk r answers) is told)
   | in-Walk w ↦ rw (w.hierarchy-is, w.in-Walk.is, w.result-is)

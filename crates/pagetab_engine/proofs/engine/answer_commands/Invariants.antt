@@ -14,7 +14,7 @@ invariant-loop-statement g l =
       fits : IsHierarchy l.hierarchy;
       levels : count (levels_of l.hierarchy.mode) ≡ g.L.LevelCount.LEVELS;
       served : TracesBack (may l.fn.lines) (may l.lines)
-          (λ behind left. ServedUntil g.L.LevelCount.LEVELS l.places (command_of g.P5.LevelFiveFlags.bits l.fn.first) behind l.fn.hierarchy (contents l.fn.writer) (contents l.writer) left l.hierarchy);
+          (λ behind left. ServedUntil g.L.LevelCount.LEVELS l.places (command_of g.L.LevelCount.LEVELS g.P5.LevelFiveFlags.bits l.fn.first) behind l.fn.hierarchy (contents l.fn.writer) (contents l.writer) left l.hierarchy);
     }
 
 abbrev pub decreases-loop-statement : goal.decreases-loop-statement

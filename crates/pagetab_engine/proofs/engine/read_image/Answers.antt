@@ -60,9 +60,9 @@ returns-in-Command-clause-read g c =
     let may = MayBeLeft g.R.Read.remaining in
     let next = c.next_statement.new.self in
     let read : c.next_statement.result ≡ Ok (Some (says.Command c.in-Command.command)) = search rules in
-    let takes : TracesBack (may c.loop-statement.lines) (may next) (λ lines rest. TakesStatement g.L.LevelCount.LEVELS c.args.places lines next.number rest (Asks (command_of g.P5.LevelFiveFlags.bits c.in-Command.command))) = rw read at c.next_statement.ensures.next in
+    let takes : TracesBack (may c.loop-statement.lines) (may next) (λ lines rest. TakesStatement g.L.LevelCount.LEVELS c.args.places lines next.number rest (Asks (command_of g.L.LevelCount.LEVELS g.P5.LevelFiveFlags.bits c.in-Command.command))) = rw read at c.next_statement.ensures.next in
     command_follows g.L.LevelCount.LEVELS c.args.places c.args.hierarchy.now (may c.args.lines.now) c.loop-statement.hierarchy (may c.loop-statement.lines) c.loop-statement.invariant.follows
-    (may next) next.number (command_of g.P5.LevelFiveFlags.bits c.in-Command.command) takes
+    (may next) next.number (command_of g.L.LevelCount.LEVELS g.P5.LevelFiveFlags.bits c.in-Command.command) takes
 
 pub returns-clause-read : goal.returns-clause-read
 returns-clause-read g c =

@@ -32,7 +32,7 @@ returns-in_err-end_image g c =
     let some = some_lines after.number (bytes_left g.R.Read.remaining after) in
     let told : c.from_residual-in_err-end_image.result ≡ Err OutOfMemory = search rules in
     rw told (of_input (RunsLines (may c.new-lines.result) held levels places empty held (Stopped OutOfMemory)) c.new-lines.result.number _ _ c.new-lines.ensures.number c.new-lines.ensures.bytes
-    (not_tested (may c.new-lines.result) held levels places empty c.read_image.new.hierarchy c.in_ok-first.ensures.mode (option_map (command_of g.P5.LevelFiveFlags.bits) c.in_ok-first.first) (may after) c.in_ok-first.ensures.read some))
+    (not_tested (may c.new-lines.result) held levels places empty c.read_image.new.hierarchy c.in_ok-first.ensures.mode (option_map (command_of g.L.LevelCount.LEVELS g.P5.LevelFiveFlags.bits) c.in_ok-first.first) (may after) c.in_ok-first.ensures.read some))
 
 pub returns-then-not-branch : goal.returns-then-not-branch
 returns-then-not-branch g c =
@@ -46,7 +46,7 @@ returns-then-not-branch g c =
     let some = some_lines after.number (bytes_left g.R.Read.remaining after) in
     let never : ¬ (FitsImage image) = search rules in
     of_input (RunsLines (may c.new-lines.result) held levels places empty held (Stopped InvalidHierarchy)) c.new-lines.result.number _ _ c.new-lines.ensures.number c.new-lines.ensures.bytes
-    (not_fitting (may c.new-lines.result) held levels places empty image c.in_ok-first.ensures.mode (option_map (command_of g.P5.LevelFiveFlags.bits) c.in_ok-first.first) (may after) c.in_ok-first.ensures.read some never)
+    (not_fitting (may c.new-lines.result) held levels places empty image c.in_ok-first.ensures.mode (option_map (command_of g.L.LevelCount.LEVELS g.P5.LevelFiveFlags.bits) c.in_ok-first.first) (may after) c.in_ok-first.ensures.read some never)
 
 pub returns-in-Some : goal.returns-in-Some
 returns-in-Some g c =
@@ -60,12 +60,12 @@ returns-in-Some g c =
     let ready = c.end_image.new.self in
     let fits : FitsImage image = search rules in
     let is_first : IsFirst image ready = search rules in
-    let asked : option_map (command_of g.P5.LevelFiveFlags.bits) c.in_ok-first.first ≡ Some (command_of g.P5.LevelFiveFlags.bits c.in-Some.command) = search rules in
+    let asked : option_map (command_of g.L.LevelCount.LEVELS g.P5.LevelFiveFlags.bits) c.in_ok-first.first ≡ Some (command_of g.L.LevelCount.LEVELS g.P5.LevelFiveFlags.bits c.in-Some.command) = search rules in
     let ending = ending_of c.answer_commands.result in
     let new = contents c.answer_commands.new.writer in
     of_input (RunsLines (may c.new-lines.result) held levels places empty new ending) c.new-lines.result.number _ _ c.new-lines.ensures.number c.new-lines.ensures.bytes
-    (commands (may c.new-lines.result) held levels places empty image c.in_ok-first.ensures.mode (option_map (command_of g.P5.LevelFiveFlags.bits) c.in_ok-first.first) (may c.read_image.new.lines) c.in_ok-first.ensures.read fits ready is_first
-    (command_of g.P5.LevelFiveFlags.bits c.in-Some.command) ending new asked c.answer_commands.ensures)
+    (commands (may c.new-lines.result) held levels places empty image c.in_ok-first.ensures.mode (option_map (command_of g.L.LevelCount.LEVELS g.P5.LevelFiveFlags.bits) c.in_ok-first.first) (may c.read_image.new.lines) c.in_ok-first.ensures.read fits ready is_first
+    (command_of g.L.LevelCount.LEVELS g.P5.LevelFiveFlags.bits c.in-Some.command) ending new asked c.answer_commands.ensures)
 
 pub returns-in-None : goal.returns-in-None
 returns-in-None g c =
@@ -80,6 +80,6 @@ returns-in-None g c =
     let fits : FitsImage image = search rules in
     let ready = c.end_image.new.self in
     let is_first : IsFirst image ready = search rules in
-    let none : option_map (command_of g.P5.LevelFiveFlags.bits) c.in_ok-first.first ≡ None = search rules in
+    let none : option_map (command_of g.L.LevelCount.LEVELS g.P5.LevelFiveFlags.bits) c.in_ok-first.first ≡ None = search rules in
     of_input (RunsLines (may c.new-lines.result) held levels places empty held Done) c.new-lines.result.number _ _ c.new-lines.ensures.number c.new-lines.ensures.bytes
-    (no_commands (may c.new-lines.result) held levels places empty image c.in_ok-first.ensures.mode (option_map (command_of g.P5.LevelFiveFlags.bits) c.in_ok-first.first) (may after) c.in_ok-first.ensures.read fits ready is_first some none)
+    (no_commands (may c.new-lines.result) held levels places empty image c.in_ok-first.ensures.mode (option_map (command_of g.L.LevelCount.LEVELS g.P5.LevelFiveFlags.bits) c.in_ok-first.first) (may after) c.in_ok-first.ensures.read fits ready is_first some none)

@@ -21,7 +21,7 @@ returns-in_err-text-clause-stopped g c =
 pub returns-clause-answered : goal.returns-clause-answered
 returns-clause-answered g c =
     let contents = g.W.Write.contents in
-    let command = command_of g.P5.LevelFiveFlags.bits c.args.command in
+    let command = command_of g.L.LevelCount.LEVELS g.P5.LevelFiveFlags.bits c.args.command in
     let reply = reply_of c.in_ok-reply.reply in
     let text : c.as_bytes.result.now ≡ reply_line reply = c.as_bytes.ensures.value ∙ c.in_ok-text.ensures.ok in
     let answers : AnswersCommand command c.args.hierarchy.now reply c.answer.new.hierarchy = c.in_ok-reply.ensures.answers in
@@ -33,7 +33,7 @@ returns-clause-answered g c =
 pub returns-clause-stopped : goal.returns-clause-stopped
 returns-clause-stopped g c =
     let contents = g.W.Write.contents in
-    let command = command_of g.P5.LevelFiveFlags.bits c.args.command in
+    let command = command_of g.L.LevelCount.LEVELS g.P5.LevelFiveFlags.bits c.args.command in
     let reply = reply_of c.in_ok-reply.reply in
     let text : c.as_bytes.result.now ≡ reply_line reply = c.as_bytes.ensures.value ∙ c.in_ok-text.ensures.ok in
     let answers : AnswersCommand command c.args.hierarchy.now reply c.answer.new.hierarchy = c.in_ok-reply.ensures.answers in

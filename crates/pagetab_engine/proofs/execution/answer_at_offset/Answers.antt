@@ -21,12 +21,12 @@ pub returns-clause-answered : goal.returns-clause-answered
 returns-clause-answered g c =
     let levels = g.L.LevelCount.LEVELS in let offset = c.args.phys_offset in let done = c.run_call.ensures in
     let is = c.new-mapper.ensures.layout ∙ ap (λ (root : ℕ). direct_at levels (offset_places levels offset) root) c.root.ensures in
-    (answered_after _ _ (pool_store c.args.frames.now.pool) (pool_store c.run_call.new.frames) (to_call g.P5.LevelFiveFlags.bits c.args.call) c.run_call.result done.keeps done.step done.free
+    (answered_after _ _ (pool_store c.args.frames.now.pool) (pool_store c.run_call.new.frames) (to_call g.L.LevelCount.LEVELS g.P5.LevelFiveFlags.bits c.args.call) c.run_call.result done.keeps done.step done.free
     levels offset c.args.frames.now.memory _ (search rules) is c.new-mapper.ensures.memory c.requires.offset c.requires.fits).1
 
 pub returns-clause-offset : goal.returns-clause-offset
 returns-clause-offset g c =
     let levels = g.L.LevelCount.LEVELS in let offset = c.args.phys_offset in let done = c.run_call.ensures in
     let is = c.new-mapper.ensures.layout ∙ ap (λ (root : ℕ). direct_at levels (offset_places levels offset) root) c.root.ensures in
-    (answered_after _ _ (pool_store c.args.frames.now.pool) (pool_store c.run_call.new.frames) (to_call g.P5.LevelFiveFlags.bits c.args.call) c.run_call.result done.keeps done.step done.free
+    (answered_after _ _ (pool_store c.args.frames.now.pool) (pool_store c.run_call.new.frames) (to_call g.L.LevelCount.LEVELS g.P5.LevelFiveFlags.bits c.args.call) c.run_call.result done.keeps done.step done.free
     levels offset c.args.frames.now.memory _ (search rules) is c.new-mapper.ensures.memory c.requires.offset c.requires.fits).0

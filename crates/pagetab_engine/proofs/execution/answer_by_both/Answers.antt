@@ -25,7 +25,7 @@ pub run_pair-requires-clause-one : goal.run_pair-requires-clause-one
 run_pair-requires-clause-one g c =
     let levels = g.L.LevelCount.LEVELS in
     let lies : direct_at levels identity_places c.new-direct.result.root ≡ direct_layout levels = lies_directly levels _ _ c.root.ensures c.new-direct.ensures.layout in
-    runs_directly (to_call g.P5.LevelFiveFlags.bits) _ levels _ _ c.args.frames.now.pool lies c.new-direct.ensures.memory c.requires.fits
+    runs_directly (to_call g.L.LevelCount.LEVELS g.P5.LevelFiveFlags.bits) _ levels _ _ c.args.frames.now.pool lies c.new-direct.ensures.memory c.requires.fits
 
 pub run_pair-requires-clause-other : goal.run_pair-requires-clause-other
 run_pair-requires-clause-other g c =
@@ -33,7 +33,7 @@ run_pair-requires-clause-other g c =
     let also = lies_recursively levels c.args.index _ _ _ _ _ c.root-2.ensures c.new-active.ensures.cr3 c.new-active.ensures.memory c.new_unchecked-recursive.ensures.layout in
     let second : memory_of c.new_unchecked-recursive.result.active ≡ c.args.twin.now.memory = ap memory_of c.new_unchecked-recursive.ensures.active ∙ c.new-active.ensures.memory in
     let one : c.deref.result.now ≡ c.args.call ∷ [] = one_pushed _ _ _ _ c.deref.ensures.value c.push_reserved.ensures.items c.in_ok-calls.ensures.items in
-    runs_recursively (to_call g.P5.LevelFiveFlags.bits) _ levels c.args.index _ _ c.args.twin.now.pool also second c.args.call one c.requires.unnamed c.requires.twin.fits
+    runs_recursively (to_call g.L.LevelCount.LEVELS g.P5.LevelFiveFlags.bits) _ levels c.args.index _ _ c.args.twin.now.pool also second c.args.call one c.requires.unnamed c.requires.twin.fits
 
 pub run_pair-requires-clause-alike : goal.run_pair-requires-clause-alike
 run_pair-requires-clause-alike g c =
@@ -62,7 +62,7 @@ returns-clause-answered g c =
     let one : c.deref.result.now ≡ c.args.call ∷ [] = one_pushed _ _ _ _ c.deref.ensures.value c.push_reserved.ensures.items c.in_ok-calls.ensures.items in
     let lies : direct_at levels identity_places c.new-direct.result.root ≡ direct_layout levels = lies_directly levels _ _ c.root.ensures c.new-direct.ensures.layout in
     let keeps = c.run_pair.ensures.one.keeps in
-    answered_one (to_call g.P5.LevelFiveFlags.bits) _ _ (pool_store c.args.frames.now.pool) (pool_store c.run_pair.new.pool_a) c.args.call _ _ _ one c.in_ok-replies.ensures.one.ran keeps c.index.ensures
+    answered_one (to_call g.L.LevelCount.LEVELS g.P5.LevelFiveFlags.bits) _ _ (pool_store c.args.frames.now.pool) (pool_store c.run_pair.new.pool_a) c.args.call _ _ _ one c.in_ok-replies.ensures.one.ran keeps c.index.ensures
     _ _ c.args.frames.now.memory c.drop-direct-2.new.self.0 lies (keeps.layout ∙ lies) c.new-direct.ensures.memory c.drop-direct-2.ensures.memory
 
 pub returns-clause-both : goal.returns-clause-both
@@ -71,7 +71,7 @@ returns-clause-both g c =
     let one : c.deref.result.now ≡ c.args.call ∷ [] = one_pushed _ _ _ _ c.deref.ensures.value c.push_reserved.ensures.items c.in_ok-calls.ensures.items in
     let also = lies_recursively levels c.args.index _ _ _ _ _ c.root-2.ensures c.new-active.ensures.cr3 c.new-active.ensures.memory c.new_unchecked-recursive.ensures.layout in
     let second : memory_of c.new_unchecked-recursive.result.active ≡ c.args.twin.now.memory = ap memory_of c.new_unchecked-recursive.ensures.active ∙ c.new-active.ensures.memory in
-    answers_recursively (to_call g.P5.LevelFiveFlags.bits) c.args.call _ _ _ levels c.args.index _ _ c.args.twin.now.pool c.run_pair.new.pool_b c.args.twin.now.memory _
+    answers_recursively (to_call g.L.LevelCount.LEVELS g.P5.LevelFiveFlags.bits) c.args.call _ _ _ levels c.args.index _ _ c.args.twin.now.pool c.run_pair.new.pool_b c.args.twin.now.memory _
     one c.in_ok-replies.ensures.other.ran c.run_pair.ensures.other.keeps c.index.ensures also second (search rules)
 
 pub returns-clause-twin : goal.returns-clause-twin

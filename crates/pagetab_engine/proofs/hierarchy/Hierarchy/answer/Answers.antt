@@ -24,7 +24,7 @@ returns-in-Pair-clause-keeps g c =
     let done = c.answer_by_both.ensures in let levels = g.L.LevelCount.LEVELS in let before = c.args.self.now in let mode = Pair c.in-Pair.field-0 c.in-Pair.index in
     let known = here before levels c.requires.levels mode c.in-Pair.is in
     kept_in before levels c.requires.levels mode c.in-Pair.is _ refl tt (twin_in _ _ _ _ _ known done.twin)
-    (kept_in_pair _ levels before.frames c.answer_by_both.new.frames (to_call g.P5.LevelFiveFlags.bits c.args.call) c.answer_by_both.result (fits_in before levels c.requires.levels mode c.in-Pair.is c.requires.fits.fits) done.answered done.unchanged)
+    (kept_in_pair _ levels before.frames c.answer_by_both.new.frames (to_call g.L.LevelCount.LEVELS g.P5.LevelFiveFlags.bits c.args.call) c.answer_by_both.result (fits_in before levels c.requires.levels mode c.in-Pair.is c.requires.fits.fits) done.answered done.unchanged)
 
 pub returns-in-Offset-clause-keeps : goal.returns-in-Offset-clause-keeps
 returns-in-Offset-clause-keeps g c =

@@ -13,7 +13,7 @@ use Rattle.pagetab_engine.proofs.hierarchy.Hierarchy.answer_call.Goals as goal
 
 pub returns-then-is_named-clause-answers : goal.returns-then-is_named-clause-answers
 returns-then-is_named-clause-answers g c =
-    let call = to_call g.P5.LevelFiveFlags.bits c.args.call in
+    let call = to_call g.L.LevelCount.LEVELS g.P5.LevelFiveFlags.bits c.args.call in
     let refused = refused_by c.args.self.now.mode g.L.LevelCount.LEVELS call c.requires.levels ∙ sym c.is_named.ensures ∙ c.if-is_named.true in
     answers_refused c.args.self.now call refused c.requires.fits
 
@@ -24,7 +24,7 @@ both_ok (Err y) P Q R f p q = tt
 
 pub returns-clause-answers : goal.returns-clause-answers
 returns-clause-answers g c =
-    let call = to_call g.P5.LevelFiveFlags.bits c.args.call in let before = c.args.self.now in let after = c.answer.new.self in
+    let call = to_call g.L.LevelCount.LEVELS g.P5.LevelFiveFlags.bits c.args.call in let before = c.args.self.now in let after = c.answer.new.self in
     let executed = refused_by before.mode g.L.LevelCount.LEVELS call c.requires.levels ∙ sym c.is_named.ensures ∙ c.if-is_named.false in
     both_ok c.answer.result (IsAnswered (hierarchy_of before) (pool_store before.frames.pool) call (hierarchy_of after) (pool_store after.frames.pool)) (TwinTells before.mode call before.twin after.twin)
     (λ (reply : Reply). AnswersCommand (Call call) before (Answered reply) after)

@@ -40,7 +40,7 @@ returns-in-Some-parse-clause-next g c =
     let short = rw read at c.next_line.ensures.fits in
     let fits : length (take c.in-Text.length c.next_line.new.line) ≤ 256 = omega (arith, length-take c.in-Text.length c.next_line.new.line) in
     let some : is_blank (take c.in-Text.length c.next_line.new.line) ≡ false = blank_line _ _ fits c.is_blank.ensures ∙ c.if-is_blank.false in
-    behind_blank _ _ _ _ c.loop-number.invariant.blank (statement_taken g.L.LevelCount.LEVELS c.args.places c.loop-number.self.number _ _ _ _ (statement_of g.P5.LevelFiveFlags.bits c.in-Some-parse.statement) counted some
+    behind_blank _ _ _ _ c.loop-number.invariant.blank (statement_taken g.L.LevelCount.LEVELS c.args.places c.loop-number.self.number _ _ _ _ (statement_of g.L.LevelCount.LEVELS g.P5.LevelFiveFlags.bits c.in-Some-parse.statement) counted some
     (rw read at c.next_line.ensures.line) (short_line _ _ _ fits ∙ sym c.in-Some-parse.ensures))
 
 pub returns-in-None-clause-why : goal.returns-in-None-clause-why
