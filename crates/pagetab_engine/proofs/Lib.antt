@@ -23,3 +23,5 @@ pub mod Fitting
 pub mod Parsing
 pub mod Situations
 pub mod LoadedLines
+pub mod WrittenCalls
+pub mod BothMappers

@@ -7,7 +7,7 @@ use Rattle.pagetab_engine.specs.Commands.{Command, Statement, Image, Asks}
 use Rattle.pagetab_engine.specs.Frames.{IsLoadable}
 use Rattle.pagetab_engine.specs.Image.{Loaded, is_loadable, load}
 use Rattle.pagetab_engine.specs.Lines.{Numbered, ExplainsRead, ForSome, TakesStatement, TracesBack}
-use Rattle.pagetab_engine.specs.Program.{Transcript, image_transcript, read_line, stops_at, tested_transcript}
+use Rattle.pagetab_engine.specs.Program.{Transcript, image_transcript, statements_in, stops_at}
 use Rattle.pagetab_engine.specs.Texts.{reply_line}
 use Rattle.pagetab_engine.specs.declared.ending.Ending.TheVariants.{Stopped}
 use Rattle.pagetab_engine.specs.declared.ending.Fault.{Fault}
@@ -22,7 +22,7 @@ use Rattle.pagetab_engine.proofs.Written.{appends_nothing}
 module _ (levels places : ℕ) (before : Hierarchy) (start : List Numbered → Type 0) where
   -- the transcript of these lines, after those before them were loaded
   abbrev of : List Numbered → Hierarchy → Transcript
-  of lines between = image_transcript levels places before.mode lines (loaded_of between.frames)
+  of lines between = image_transcript before.mode (statements_in levels places lines) (loaded_of between.frames)
 
   pub begins : TracesBack start start (λ all left. Follows levels places all before left before)
   begins = λ left may. (left, may, refl)
@@ -30,10 +30,10 @@ module _ (levels places : ℕ) (before : Hierarchy) (start : List Numbered → T
   module _ (between : Hierarchy) (old : List Numbered → Type 0) (follows : TracesBack start old (λ all left. Follows levels places all before left between)) where
     -- the transcript of lines that begin with this statement
     taken : (lines : List Numbered) (number : ℕ) (rest : List Numbered) (statement : Statement) → TakesStatement levels places lines number rest statement
-        → of lines between ≡ read_line (Some statement) number (loaded_of between.frames) (λ loaded. image_transcript levels places before.mode rest loaded) (λ command. tested_transcript levels places before.mode (loaded_of between.frames) (Some command) rest)
+        → of lines between ≡ image_transcript before.mode ((number, Some statement) ∷ statements_in levels places rest) (loaded_of between.frames)
     taken lines number rest statement takes =
         ap (λ lines. of lines between) takes.1
-        ∙ ap (λ said. read_line said number (loaded_of between.frames) (λ loaded. image_transcript levels places before.mode rest loaded) (λ command. tested_transcript levels places before.mode (loaded_of between.frames) (Some command) rest)) takes.2
+        ∙ ap (λ said. image_transcript before.mode ((number, said) ∷ statements_in levels places rest) (loaded_of between.frames)) takes.2
 
     -- another line was loaded
     pub goes_on : (new : List Numbered → Type 0) (number : ℕ) (image : ImageLine) (after : Hierarchy)
@@ -44,8 +44,8 @@ module _ (levels places : ℕ) (before : Hierarchy) (start : List Numbered → T
           all.0,
           all.1,
           all.2 ∙ taken lines.0 number rest (Image image) lines.2
-              ∙ ap (λ b. cond b (image_transcript levels places before.mode rest (load (loaded_of between.frames) image)) (stops_at number)) ((loadable_tells between.frames image).1 loads.accepted)
-              ∙ ap (λ (loaded : Loaded). image_transcript levels places before.mode rest loaded) (sym (load_told image between after loads)),
+              ∙ ap (λ b. cond b (image_transcript before.mode (statements_in levels places rest) (load (loaded_of between.frames) image)) (stops_at number)) ((loadable_tells between.frames image).1 loads.accepted)
+              ∙ ap (λ (loaded : Loaded). image_transcript before.mode (statements_in levels places rest) loaded) (sym (load_told image between after loads)),
         )
 
     -- a line says the first command
@@ -72,7 +72,7 @@ module _ (levels places : ℕ) (before : Hierarchy) (start : List Numbered → T
         stops : (all lines : List Numbered) (fault : Fault) → ExplainsRead levels places lines fault → read_into levels places all before ≡ of lines between → StopsInImage levels places all before fault
         stops all [] (BadLine number) why is = absurd why
         stops all (line ∷ lines) (BadLine number) why is = bad all number
-            (is ∙ ap (λ said. read_line said line.number (loaded_of between.frames) (λ loaded. image_transcript levels places before.mode lines loaded) (λ command. tested_transcript levels places before.mode (loaded_of between.frames) (Some command) lines)) why.1
+            (is ∙ ap (λ said. image_transcript before.mode ((line.number, said) ∷ statements_in levels places lines) (loaded_of between.frames)) why.1
             ∙ ap stops_at why.0)
         stops all lines Input why is = λ held. ([], (read_into levels places all before).replies, refl, appends_nothing held)
         stops all lines InvalidHierarchy why is = absurd why
@@ -88,7 +88,7 @@ module _ (levels places : ℕ) (before : Hierarchy) (start : List Numbered → T
           all.0,
           all.1,
           bad all.0 number (all.2 ∙ taken lines.0 number some.0 (Image image) lines.2
-              ∙ ap (λ b. cond b (image_transcript levels places before.mode some.0 (load (loaded_of between.frames) image)) (stops_at number)) (refused (is_loadable (loaded_of between.frames) image) refl)),
+              ∙ ap (λ b. cond b (image_transcript before.mode (statements_in levels places some.0) (load (loaded_of between.frames) image)) (stops_at number)) (refused (is_loadable (loaded_of between.frames) image) refl)),
         )
       where
         refused : (b : Bool) → is_loadable (loaded_of between.frames) image ≡ b → is_loadable (loaded_of between.frames) image ≡ false

@@ -6,7 +6,7 @@ use Rattle.std.specs.Io.KnownBytes.{Appends}
 use Rattle.std.specs.List.{flat_map}
 use Rattle.pagetab_engine.specs.Commands.{Command, Statement, Image, Asks}
 use Rattle.pagetab_engine.specs.Lines.{Numbered, ExplainsRead, ForSome, TakesStatement, TracesBack}
-use Rattle.pagetab_engine.specs.Program.{IsTold, Transcript, ending_alone, first_served, served_transcript, served_line, stops_at}
+use Rattle.pagetab_engine.specs.Program.{IsTold, Transcript, ending_alone, served_transcript, statements_in, stops_at}
 use Rattle.pagetab_engine.specs.Reply.{Reply}
 use Rattle.pagetab_engine.specs.Texts.{reply_line}
 use Rattle.pagetab_engine.specs.declared.ending.Ending.{Ending}
@@ -15,7 +15,7 @@ use Rattle.pagetab_engine.specs.declared.ending.Fault.{Fault}
 use Rattle.pagetab_engine.specs.declared.ending.Fault.TheVariants.{BadLine, InvalidHierarchy, OutOfMemory, Input, Output, Usage}
 use Rattle.pagetab_engine.specs.declared.hierarchy.Hierarchy.{Hierarchy}
 use Rattle.pagetab_engine.specs.declared.statement.ImageLine.{ImageLine}
-use Rattle.pagetab_engine.specs.private.RunParts.{Replies, Served, ServedUntil, CommandStops, behind_replies, situation_of}
+use Rattle.pagetab_engine.specs.private.RunParts.{Replies, Served, ServedUntil, CommandStops, behind_replies, situation_of, with_first}
 use Rattle.pagetab_engine.proofs.Parsing.{shown}
 use Rattle.pagetab_engine.proofs.Situations.{answer_told}
 use Rattle.pagetab_engine.proofs.Written.{appends_both}
@@ -27,9 +27,9 @@ module _ (levels places : ℕ) (first : Command) (before : Hierarchy) (old : Opt
   first_stops some after new fault stops = (some.0, some.1, by fault stops)
     where
       by : (fault : Fault) → CommandStops first before after old new fault → Served levels places first some.0 before old new (Stopped fault)
-      by OutOfMemory stops = λ shows. ([], (first_served levels places (Some first) some.0 (situation_of before)).replies, refl, stops)
+      by OutOfMemory stops = λ shows. ([], (served_transcript (with_first levels places (Some first) some.0) (situation_of before)).replies, refl, stops)
       by Output (reply, answers, (front, part, appends)) = λ shows.
-          ([], reply, (served_transcript levels places some.0 (situation_of after)).replies, front, ap (λ (t : Transcript). t.replies) (answer_told levels places first before after reply answers shows some.0), part, appends)
+          ([], reply, (served_transcript (statements_in levels places some.0) (situation_of after)).replies, front, ap (λ (t : Transcript). t.replies) (answer_told levels places first before after reply answers shows some.0), part, appends)
       by (BadLine number) stops = absurd stops
       by InvalidHierarchy stops = absurd stops
       by Input stops = absurd stops
@@ -48,12 +48,12 @@ module _ (levels places : ℕ) (first : Command) (before : Hierarchy) (old : Opt
       (until : TracesBack start left (λ behind lines. ServedUntil levels places first behind before old held lines between)) where
     -- the transcript of the lines that are left
     abbrev of : List Numbered → Transcript
-    of lines = served_transcript levels places lines (situation_of between)
+    of lines = served_transcript (statements_in levels places lines) (situation_of between)
 
     -- the transcript of lines that begin with this statement
     taken : (lines : List Numbered) (number : ℕ) (rest : List Numbered) (statement : Statement) → TakesStatement levels places lines number rest statement
-        → of lines ≡ served_line (Some statement) number (situation_of between) (λ s. served_transcript levels places rest s)
-    taken lines number rest statement takes = ap of takes.1 ∙ ap (λ said. served_line said number (situation_of between) (λ s. served_transcript levels places rest s)) takes.2
+        → of lines ≡ served_transcript ((number, Some statement) ∷ statements_in levels places rest) (situation_of between)
+    taken lines number rest statement takes = ap of takes.1 ∙ ap (λ said. served_transcript ((number, said) ∷ statements_in levels places rest) (situation_of between)) takes.2
 
     -- the next command gets its reply
     pub next_served : (next : List Numbered → Type 0) (number : ℕ) (command : Command) (after : Hierarchy) (new : Option (List ℕ))
@@ -70,7 +70,7 @@ module _ (levels places : ℕ) (first : Command) (before : Hierarchy) (old : Opt
                 subst (λ bytes. Appends old new bytes) (sym (ap (λ bytes. flat_map reply_line so_far.0 ++ bytes) (append-nil (reply_line reply))) ∙ sym (flat_map-append reply_line so_far.0 (reply ∷ [])))
                     (appends_both old held new (flat_map reply_line so_far.0) (reply_line reply) so_far.1 appends),
                 so_far.2 ∙ ap (behind_replies so_far.0) more
-                    ∙ (λ i. record { replies = sym (append_assoc so_far.0 (reply ∷ []) (served_transcript levels places rest (situation_of after)).replies) i; ending = (served_transcript levels places rest (situation_of after)).ending }),
+                    ∙ (λ i. record { replies = sym (append_assoc so_far.0 (reply ∷ []) (served_transcript (statements_in levels places rest) (situation_of after)).replies) i; ending = (served_transcript (statements_in levels places rest) (situation_of after)).ending }),
               ),
         )
 
@@ -99,7 +99,7 @@ module _ (levels places : ℕ) (first : Command) (before : Hierarchy) (old : Opt
             (λ replies written. (
               replies,
               reply,
-              (served_transcript levels places some.0 (situation_of after)).replies,
+              (served_transcript (statements_in levels places some.0) (situation_of after)).replies,
               front,
               ap (λ (t : Transcript). replies ++ t.replies) more,
               part,
@@ -133,7 +133,7 @@ module _ (levels places : ℕ) (first : Command) (before : Hierarchy) (old : Opt
         stops : (lines : List Numbered) (fault : Fault) → left lines → ExplainsRead levels places lines fault → ForSome start (λ behind. Served levels places first behind before old held (Stopped fault))
         stops [] (BadLine number) may why = absurd why
         stops (line ∷ lines) (BadLine number) may why = ended (line ∷ lines) may (Stopped (BadLine number)) held
-            (whole (line ∷ lines) (Stopped (BadLine number)) (ap (λ said. served_line said line.number (situation_of between) (λ s. served_transcript levels places lines s)) why.1 ∙ ap stops_at why.0))
+            (whole (line ∷ lines) (Stopped (BadLine number)) (ap (λ said. served_transcript ((line.number, said) ∷ statements_in levels places lines) (situation_of between)) why.1 ∙ ap stops_at why.0))
         stops lines Input may why = ended lines may (Stopped Input) held (λ replies written. (replies, (of lines).replies, refl, written))
         stops lines InvalidHierarchy may why = absurd why
         stops lines OutOfMemory may why = absurd why

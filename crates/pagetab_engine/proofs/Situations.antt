@@ -12,12 +12,12 @@ use Rattle.pagetab_engine.specs.Commands.{Command, Call, Walk, Show}
 use Rattle.pagetab_engine.specs.Commands as command
 use Rattle.pagetab_engine.specs.Hierarchy.{layout_of}
 use Rattle.pagetab_engine.specs.Lines.{Numbered}
-use Rattle.pagetab_engine.specs.Program.{command_transcript, behind_reply, served_transcript}
+use Rattle.pagetab_engine.specs.Program.{behind_reply, served_transcript, statements_in}
 use Rattle.pagetab_engine.specs.Reply.{Reply}
 use Rattle.pagetab_engine.specs.Situation.{call_back, call_step, command_after}
 use Rattle.pagetab_engine.specs.TableWords.{words_after}
 use Rattle.pagetab_engine.specs.declared.hierarchy.Hierarchy.{Hierarchy}
-use Rattle.pagetab_engine.specs.private.RunParts.{AnswersCommand, IsShown, situation_of}
+use Rattle.pagetab_engine.specs.private.RunParts.{AnswersCommand, IsShown, situation_of, with_first}
 use Rattle.pagetab_engine.proofs.Keeping.{by_number}
 use Rattle.pagetab_engine.proofs.TableWords.{words_told}
 
@@ -60,7 +60,7 @@ command_told command.Pool before after reply answers = ap situation_of (answers.
 
 -- so the transcript of a command begins with its reply
 pub answer_told : (levels places : ℕ) (asked : Command) (before after : Hierarchy) (reply : Reply) → AnswersCommand asked before reply after → IsShown asked → (behind : List Numbered)
-    → command_transcript asked (situation_of before) (λ s. served_transcript levels places behind s) ≡ behind_reply (Some reply) (served_transcript levels places behind (situation_of after))
+    → served_transcript (with_first levels places (Some asked) behind) (situation_of before) ≡ behind_reply (Some reply) (served_transcript (statements_in levels places behind) (situation_of after))
 answer_told levels places asked before after reply answers shown behind =
-    ap (λ (told : Option Reply). behind_reply told (served_transcript levels places behind (command_after (situation_of before) asked))) (answers.reply shown)
-    ∙ ap (λ s. behind_reply (Some reply) (served_transcript levels places behind s)) (sym (command_told asked before after reply answers))
+    ap (λ (told : Option Reply). behind_reply told (served_transcript (statements_in levels places behind) (command_after (situation_of before) asked))) (answers.reply shown)
+    ∙ ap (λ s. behind_reply (Some reply) (served_transcript (statements_in levels places behind) s)) (sym (command_told asked before after reply answers))

@@ -9,7 +9,7 @@ use Rattle.pagetab_engine.specs.Hierarchy.{FitsImage, ModeReaches}
 use Rattle.pagetab_engine.specs.Image.{first_situation, fits, nothing_loaded}
 use Rattle.pagetab_engine.specs.Lines.{Numbered, ForSome, IsInput, TracesBack, lines_of, numbered_from}
 use Rattle.pagetab_engine.specs.Modes.{mode_reaches}
-use Rattle.pagetab_engine.specs.Program.{CanEnd, IsTold, Runs, Transcript, ending_alone, first_served, levels_in, image_transcript, tested_transcript, transcript, transcript_with}
+use Rattle.pagetab_engine.specs.Program.{CanEnd, IsTold, Runs, Transcript, ending_alone, levels_in, image_transcript, served_transcript, statements_in, tested_transcript, transcript}
 use Rattle.pagetab_engine.specs.Situation.{situation}
 use Rattle.pagetab_engine.specs.Texts.{reply_line}
 use Rattle.pagetab_engine.specs.declared.arguments.Arguments.{Arguments}
@@ -19,7 +19,7 @@ use Rattle.pagetab_engine.specs.declared.ending.Ending.TheVariants.{Done, Stoppe
 use Rattle.pagetab_engine.specs.declared.ending.Fault.{Fault}
 use Rattle.pagetab_engine.specs.declared.ending.Fault.TheVariants.{BadLine, InvalidHierarchy, OutOfMemory, Input, Output, Usage}
 use Rattle.pagetab_engine.specs.declared.hierarchy.Hierarchy.{Hierarchy}
-use Rattle.pagetab_engine.specs.private.RunParts.{IsEmpty, IsFirst, IsFirstShown, LoadsImage, RunsFrom, Served, StopsInImage, loaded_of, read_into, situation_of}
+use Rattle.pagetab_engine.specs.private.RunParts.{IsEmpty, IsFirst, IsFirstShown, LoadsImage, RunsFrom, Served, StopsInImage, loaded_of, read_into, situation_of, with_first}
 use Rattle.pagetab_engine.proofs.Fitting.{fits_tell}
 use Rattle.pagetab_engine.proofs.LoadedLines.{empty_reached, empty_told}
 use Rattle.pagetab_engine.proofs.Numbering.{MayFollow, some_input}
@@ -46,22 +46,22 @@ told_nothing held t ending is = subst (λ t. ToldNothing held t ending) (sym is)
 
 module _ (words : List (List ℕ)) (known : Option (List ℕ)) (old : Option (List ℕ)) where
   -- a run with wrong arguments
-  ends_in_usage : ((input : List ℕ) → transcript words input ≡ ending_alone (Stopped Usage)) → ForSome (IsInput known) (λ input. Runs words input old old (Stopped Usage))
-  ends_in_usage is = let some = some_input known in (some.0, some.1, record { may_end = tt; told = told_nothing old (transcript words some.0) (Stopped Usage) (is some.0) })
+  ends_in_usage : ((input : List ℕ) → transcript (arguments_in words) input ≡ ending_alone (Stopped Usage)) → ForSome (IsInput known) (λ input. Runs words input old old (Stopped Usage))
+  ends_in_usage is = let some = some_input known in (some.0, some.1, record { may_end = tt; told = told_nothing old (transcript (arguments_in words) some.0) (Stopped Usage) (is some.0) })
 
   pub no_arguments : arguments_in words ≡ None → ForSome (IsInput known) (λ input. Runs words input old old (Stopped Usage))
-  no_arguments none = ends_in_usage (λ input. ap (λ arguments. transcript_with arguments input) none)
+  no_arguments none = ends_in_usage (λ input. ap (λ arguments. transcript arguments input) none)
 
   module _ (arguments : Arguments) (are : arguments_in words ≡ Some arguments) where
     pub no_memory : ForSome (IsInput known) (λ input. Runs words input old old (Stopped OutOfMemory))
     no_memory =
         let some = some_input known in
-        (some.0, some.1, record { may_end = subst (λ arguments. CanEnd arguments (Stopped OutOfMemory)) (sym are) refl; told = ([], (transcript words some.0).replies, refl, appends_nothing old) })
+        (some.0, some.1, record { may_end = subst (λ arguments. CanEnd arguments (Stopped OutOfMemory)) (sym are) refl; told = ([], (transcript (arguments_in words) some.0).replies, refl, appends_nothing old) })
 
     module _ (empty : Hierarchy) (is_empty : IsEmpty arguments empty) where
       pub not_reached : ¬ (ModeReaches empty.mode empty.frames.memory) → ForSome (IsInput known) (λ input. Runs words input old old (Stopped Usage))
-      not_reached never = ends_in_usage (λ input. ap (λ arguments. transcript_with arguments input) are
-          ∙ ap (λ b. cond b (image_transcript (levels_in arguments) arguments.places arguments.mode (numbered_from 1 (lines_of input)) (nothing_loaded arguments.places)) (ending_alone (Stopped Usage)))
+      not_reached never = ends_in_usage (λ input. ap (λ arguments. transcript arguments input) are
+          ∙ ap (λ b. cond b (image_transcript arguments.mode (statements_in (levels_in arguments) arguments.places (numbered_from 1 (lines_of input))) (nothing_loaded arguments.places)) (ending_alone (Stopped Usage)))
           (is_false (mode_reaches arguments.mode arguments.places) (empty_reached arguments empty is_empty) never))
 
       -- a run that reads
@@ -72,10 +72,10 @@ module _ (words : List (List ℕ)) (known : Option (List ℕ)) (old : Option (Li
           reads : mode_reaches arguments.mode arguments.places ≡ true
           reads = (empty_reached arguments empty is_empty).1 reached
 
-          same : transcript words input ≡ read_into (levels_in arguments) arguments.places (numbered_from 1 (lines_of input)) empty
-          same = ap (λ arguments. transcript_with arguments input) are
-              ∙ ap (λ b. cond b (image_transcript (levels_in arguments) arguments.places arguments.mode (numbered_from 1 (lines_of input)) (nothing_loaded arguments.places)) (ending_alone (Stopped Usage))) reads
-              ∙ (λ i. image_transcript (levels_in arguments) arguments.places (sym is_empty.mode i) (numbered_from 1 (lines_of input)) (sym (empty_told arguments empty is_empty) i))
+          same : transcript (arguments_in words) input ≡ read_into (levels_in arguments) arguments.places (numbered_from 1 (lines_of input)) empty
+          same = ap (λ arguments. transcript arguments input) are
+              ∙ ap (λ b. cond b (image_transcript arguments.mode (statements_in (levels_in arguments) arguments.places (numbered_from 1 (lines_of input))) (nothing_loaded arguments.places)) (ending_alone (Stopped Usage))) reads
+              ∙ (λ i. image_transcript (sym is_empty.mode i) (statements_in (levels_in arguments) arguments.places (numbered_from 1 (lines_of input))) (sym (empty_told arguments empty is_empty) i))
 
           can_end : (ending : Ending) → CanEnd (Some arguments) ending
           can_end Done = tt
@@ -102,10 +102,10 @@ module _ (start : List Numbered → Type 0) (old : Option (List ℕ)) (levels pl
 
     -- the transcript after the test
     by_test : (lines behind : List Numbered) → LoadsImage levels places lines empty first behind image → (b : Bool) → fits image.mode (loaded_of image.frames) ≡ b
-        → read_into levels places lines empty ≡ cond b (first_served levels places first behind (first_situation image.mode (loaded_of image.frames))) (ending_alone (Stopped InvalidHierarchy))
+        → read_into levels places lines empty ≡ cond b (served_transcript (with_first levels places first behind) (first_situation image.mode (loaded_of image.frames))) (ending_alone (Stopped InvalidHierarchy))
     by_test lines behind loads b is =
-        loads.1 ∙ ap (λ (mode : Mode). tested_transcript levels places mode (loaded_of image.frames) first behind) (sym mode)
-        ∙ ap (λ b. cond b (first_served levels places first behind (first_situation image.mode (loaded_of image.frames))) (ending_alone (Stopped InvalidHierarchy))) is
+        loads.1 ∙ ap (λ (mode : Mode). tested_transcript mode (loaded_of image.frames) (with_first levels places first behind)) (sym mode)
+        ∙ ap (λ b. cond b (served_transcript (with_first levels places first behind) (first_situation image.mode (loaded_of image.frames))) (ending_alone (Stopped InvalidHierarchy))) is
 
     pub not_fitting : ForSome after (λ behind. ⊤) → ¬ (FitsImage image) → ForSome start (RunsLines old (Stopped InvalidHierarchy))
     not_fitting some never =
@@ -115,19 +115,19 @@ module _ (start : List Numbered → Type 0) (old : Option (List ℕ)) (levels pl
 
     module _ (fitting : FitsImage image) (ready : Hierarchy) (is_first : IsFirst image ready) where
       -- the transcript of what follows the image
-      goes_on_with : (lines behind : List Numbered) → LoadsImage levels places lines empty first behind image → read_into levels places lines empty ≡ first_served levels places first behind (situation_of ready)
+      goes_on_with : (lines behind : List Numbered) → LoadsImage levels places lines empty first behind image → read_into levels places lines empty ≡ served_transcript (with_first levels places first behind) (situation_of ready)
       goes_on_with lines behind loads =
           by_test lines behind loads true ((fits_tell image.mode (loaded_of image.frames)).1 fitting)
-          ∙ (λ i. first_served levels places first behind (situation (sym is_first.mode i) (sym is_first.memory i) (sym is_first.pool i).frames))
+          ∙ (λ i. served_transcript (with_first levels places first behind) (situation (sym is_first.mode i) (sym is_first.memory i) (sym is_first.pool i).frames))
 
       pub no_commands : ForSome after (λ behind. ⊤) → first ≡ None → ForSome start (RunsLines old Done)
       no_commands some none =
           let lines = loaded some.0 some.1 in
-          (lines.0, lines.1, told_nothing old (read_into levels places lines.0 empty) Done (goes_on_with lines.0 some.0 lines.2 ∙ ap (λ first. first_served levels places first some.0 (situation_of ready)) none))
+          (lines.0, lines.1, told_nothing old (read_into levels places lines.0 empty) Done (goes_on_with lines.0 some.0 lines.2 ∙ ap (λ first. served_transcript (with_first levels places first some.0) (situation_of ready)) none))
 
       pub commands : (command : Command) (ending : Ending) (new : Option (List ℕ)) → first ≡ Some command
           → ForSome after (λ behind. Served levels places command behind ready old new ending) → ForSome start (RunsLines new ending)
       commands command ending new asked told =
           let lines = loaded told.0 told.1 in
           let shows = subst IsFirstShown asked lines.2.0 in
-          (lines.0, lines.1, subst (λ (t : Transcript). IsTold t old new ending) (sym (goes_on_with lines.0 told.0 lines.2 ∙ ap (λ first. first_served levels places first told.0 (situation_of ready)) asked)) (told.2 shows))
+          (lines.0, lines.1, subst (λ (t : Transcript). IsTold t old new ending) (sym (goes_on_with lines.0 told.0 lines.2 ∙ ap (λ first. served_transcript (with_first levels places first told.0) (situation_of ready)) asked)) (told.2 shows))

@@ -18,6 +18,7 @@ pub mod Image
 pub mod Ending
 pub mod Texts
 pub mod Program
+pub mod BothMappers
 pub mod private
 pub use Rattle.x86_64_tables.specs.LentPool
 pub use Rattle.text.specs.Numbers

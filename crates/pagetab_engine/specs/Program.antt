@@ -1,8 +1,8 @@
 -- What the program writes and how it ends, as a function of its arguments and the bytes of its input.
-use Rattle.std.specs.Prelude.{◌≡◌, ℕ, ⊤, Bool, false, IsTrue, IsSome, cond, List, [], ◌∷◌, ◌++◌, flat_map, Option, Some, None}
+use Rattle.std.specs.Prelude.{◌≡◌, ℕ, ⊤, Bool, false, IsTrue, IsSome, cond, List, [], ◌∷◌, ◌++◌, flat_map, map, Option, Some, None}
 use Rattle.std.specs.Io.KnownBytes.{Appends}
 use Rattle.pagetab_engine.specs.Arguments.{arguments_in, count, levels_of}
-use Rattle.pagetab_engine.specs.Commands.{Command, Statement, Image, Asks}
+use Rattle.pagetab_engine.specs.Commands.{Statement, Image, Asks}
 use Rattle.pagetab_engine.specs.Image.{Loaded, first_situation, fits, is_loadable, load, nothing_loaded}
 use Rattle.pagetab_engine.specs.Lines.{Numbered, numbered_from, lines_of}
 use Rattle.pagetab_engine.specs.Modes.{mode_reaches}
@@ -34,47 +34,28 @@ abbrev pub behind_reply : Option Reply → Transcript → Transcript
 behind_reply None rest = rest
 behind_reply (Some reply) rest = record { replies = reply ∷ rest.replies; ending = rest.ending }
 
--- ---- the commands
+-- ---- the lines
 
--- The transcript of a command, with that of what follows it.
-abbrev pub command_transcript : Command → Situation → (rest : Situation → Transcript) → Transcript
-command_transcript command s rest = behind_reply (command_reply s command) (rest (command_after s command))
+-- Each of these lines as its number and the statement that it is, if it is one for this number of levels and of places.
+abbrev pub statements_in : (levels places : ℕ) → List Numbered → List (ℕ × Option Statement)
+statements_in levels places lines = map (λ line. (line.number, statement_in levels places line.line)) lines
 
--- The transcript of a line after the image, by its statement if it is one. It is bad if it is no command.
-abbrev pub served_line : Option Statement → (number : ℕ) → Situation → (rest : Situation → Transcript) → Transcript
-served_line None number s rest = stops_at number
-served_line (Some (Image line)) number s rest = stops_at number
-served_line (Some (Asks command)) number s rest = command_transcript command s rest
+-- The transcript of the lines after the image, by their numbers and statements. Each command gets its reply. Other lines are bad.
+abbrev pub served_transcript : List (ℕ × Option Statement) → Situation → Transcript
+served_transcript [] s = ending_alone Done
+served_transcript ((number, Some (Asks command)) ∷ lines) s = behind_reply (command_reply s command) (served_transcript lines (command_after s command))
+served_transcript ((number, other) ∷ lines) s = stops_at number
 
--- The transcript of the lines after the image, for this number of levels and of places. Each command gets its reply.
-abbrev pub served_transcript : (levels places : ℕ) → List Numbered → Situation → Transcript
-served_transcript levels places [] s = ending_alone Done
-served_transcript levels places (line ∷ lines) s = served_line (statement_in levels places line.line) line.number s (λ s. served_transcript levels places lines s)
+-- The transcript of a complete image, which is tested, and of the lines after it, by their numbers and statements.
+abbrev pub tested_transcript : Mode → Loaded → List (ℕ × Option Statement) → Transcript
+tested_transcript mode loaded lines = cond (fits mode loaded) (served_transcript lines (first_situation mode loaded)) (ending_alone (Stopped InvalidHierarchy))
 
--- ---- the image
-
--- The transcript of the first command, if there is one, and of the lines behind it.
-abbrev pub first_served : (levels places : ℕ) → (first : Option Command) → (behind : List Numbered) → Situation → Transcript
-first_served levels places None behind s = ending_alone Done
-first_served levels places (Some command) behind s = command_transcript command s (λ s. served_transcript levels places behind s)
-
--- The transcript of a complete image, which is tested, and of what follows it.
-abbrev pub tested_transcript : (levels places : ℕ) → Mode → Loaded → (first : Option Command) → (behind : List Numbered) → Transcript
-tested_transcript levels places mode loaded first behind =
-    cond (fits mode loaded) (first_served levels places first behind (first_situation mode loaded)) (ending_alone (Stopped InvalidHierarchy))
-
--- The transcript of a line before the first command, by its statement if it is one. A line of the image is loaded, and is bad if
--- it can't be. The first command ends the image. Other lines are bad.
-abbrev pub read_line : Option Statement → (number : ℕ) → Loaded → (rest : Loaded → Transcript) → (end : Command → Transcript) → Transcript
-read_line None number loaded rest end = stops_at number
-read_line (Some (Image line)) number loaded rest end = cond (is_loadable loaded line) (rest (load loaded line)) (stops_at number)
-read_line (Some (Asks command)) number loaded rest end = end command
-
--- The transcript of the lines of an image and those behind them, for this number of levels and of places.
-abbrev pub image_transcript : (levels places : ℕ) → Mode → List Numbered → Loaded → Transcript
-image_transcript levels places mode [] loaded = tested_transcript levels places mode loaded None []
-image_transcript levels places mode (line ∷ lines) loaded = read_line (statement_in levels places line.line) line.number loaded
-    (λ loaded. image_transcript levels places mode lines loaded) (λ command. tested_transcript levels places mode loaded (Some command) lines)
+-- The transcript of the lines of an image and those behind them, by their numbers and statements. A line is bad if it is no
+-- statement. One of the image is loaded, and is bad if it can't be. The first command, or the end of the lines, ends the image.
+abbrev pub image_transcript : Mode → List (ℕ × Option Statement) → Loaded → Transcript
+image_transcript mode ((number, None) ∷ lines) loaded = stops_at number
+image_transcript mode ((number, Some (Image line)) ∷ lines) loaded = cond (is_loadable loaded line) (image_transcript mode lines (load loaded line)) (stops_at number)
+image_transcript mode lines loaded = tested_transcript mode loaded lines
 
 -- ---- the run
 
@@ -87,15 +68,11 @@ abbrev pub is_reading : Option Arguments → Bool
 is_reading None = false
 is_reading (Some arguments) = mode_reaches arguments.mode arguments.places
 
--- The transcript of a run with these arguments.
-abbrev pub transcript_with : Option Arguments → (input : List ℕ) → Transcript
-transcript_with None input = ending_alone (Stopped Usage)
-transcript_with (Some arguments) input = cond (mode_reaches arguments.mode arguments.places)
-    (image_transcript (levels_in arguments) arguments.places arguments.mode (numbered_from 1 (lines_of input)) (nothing_loaded arguments.places)) (ending_alone (Stopped Usage))
-
--- The transcript of a run, by the words of its arguments and the bytes of its input.
-abbrev pub transcript : (words : List (List ℕ)) → (input : List ℕ) → Transcript
-transcript words input = transcript_with (arguments_in words) input
+-- The transcript of a run with these arguments, if there are any, on the bytes of its input.
+abbrev pub transcript : Option Arguments → (input : List ℕ) → Transcript
+transcript None input = ending_alone (Stopped Usage)
+transcript (Some arguments) input = cond (mode_reaches arguments.mode arguments.places)
+    (image_transcript arguments.mode (statements_in (levels_in arguments) arguments.places (numbered_from 1 (lines_of input))) (nothing_loaded arguments.places)) (ending_alone (Stopped Usage))
 
 -- ---- what is written
 
@@ -115,10 +92,10 @@ WritesPart replies before after = (first : List Reply) × (cut : Reply) × (left
 -- The transcript's replies are written in order as lines, and its ending is this one. If a memory allocation, a read or a write
 -- failed, only the first replies are written, and a first part of the one whose write failed.
 abbrev pub IsTold : Transcript → (before after : Option (List ℕ)) → Ending → Type 0
-IsTold transcript before after (Stopped OutOfMemory) = WritesFirst transcript.replies before after
-IsTold transcript before after (Stopped Input) = WritesFirst transcript.replies before after
-IsTold transcript before after (Stopped Output) = WritesPart transcript.replies before after
-IsTold transcript before after ending = (ending ≡ transcript.ending) × Appends before after (flat_map reply_line transcript.replies)
+IsTold whole before after (Stopped OutOfMemory) = WritesFirst whole.replies before after
+IsTold whole before after (Stopped Input) = WritesFirst whole.replies before after
+IsTold whole before after (Stopped Output) = WritesPart whole.replies before after
+IsTold whole before after ending = (ending ≡ whole.ending) × Appends before after (flat_map reply_line whole.replies)
 
 -- A memory allocation fails only if there are arguments, and a read only if the input is read.
 abbrev pub CanEnd : Option Arguments → Ending → Type 0
@@ -130,4 +107,4 @@ CanEnd arguments ending = ⊤
 -- or a write fails.
 pub record Runs (words : List (List ℕ)) (input : List ℕ) (before after : Option (List ℕ)) (ending : Ending) : Type 0 where
   pub may_end : CanEnd (arguments_in words) ending
-  pub told : IsTold (transcript words input) before after ending
+  pub told : IsTold (transcript (arguments_in words) input) before after ending

@@ -8,6 +8,7 @@ mod execution;
 mod fields;
 mod frames;
 mod hierarchy;
+pub mod laws;
 mod lines;
 mod page_call;
 mod reply;

@@ -1,16 +1,16 @@
 -- The parts of a run, for the contracts of the engine's functions.
-use Rattle.std.specs.Prelude.{◌≡◌, ◌<◌, ◌*◌, ◌^◌, ℕ, ⊤, true, if◌then◌else◌, nat_lt, List, [], ◌++◌, flat_map, Option, Some, None, Result, Ok, Err}
+use Rattle.std.specs.Prelude.{◌≡◌, ◌<◌, ◌*◌, ◌^◌, ℕ, ⊤, true, if◌then◌else◌, nat_lt, List, [], ◌∷◌, ◌++◌, flat_map, Option, Some, None, Result, Ok, Err}
 use Rattle.std.specs.FinMap.{get}
 use Rattle.std.specs.Io.KnownBytes.{Appends}
 use Rattle.x86_64_model.specs.Machine.{State}
 use Rattle.x86_64_tables.specs.PageTable.{zero_words}
-use Rattle.pagetab_engine.specs.Commands.{Command, Call, Show}
+use Rattle.pagetab_engine.specs.Commands.{Command, Call, Show, Statement, Asks}
 use Rattle.pagetab_engine.specs.Frames.{IsLoadable, memory_loaded, free_after}
 use Rattle.pagetab_engine.specs.Hierarchy.{hierarchy_state, BothAnswer, HasCopy, KeepsHierarchy, KeepsFree}
 use Rattle.pagetab_engine.specs.Image.{Loaded}
 use Rattle.pagetab_engine.specs.Lines.{Numbered, numbered_from, lines_of}
 use Rattle.pagetab_engine.specs.Modes.{first_memory, is_refused}
-use Rattle.pagetab_engine.specs.Program.{Transcript, IsFrontPart, IsTold, first_served, image_transcript, served_transcript, tested_transcript}
+use Rattle.pagetab_engine.specs.Program.{Transcript, IsFrontPart, IsTold, image_transcript, served_transcript, statements_in, tested_transcript}
 use Rattle.pagetab_engine.specs.Reply.{Reply, Answered}
 use Rattle.pagetab_engine.specs.Situation.{Situation, call_back, call_step, command_reply, situation}
 use Rattle.pagetab_engine.specs.Texts.{reply_line}
@@ -97,7 +97,7 @@ pub record IsFirst (image first : Hierarchy) : Type 0 where
 
 -- The transcript of lines that are read into a hierarchy.
 abbrev pub read_into : (levels places : ℕ) → (lines : List Numbered) → Hierarchy → Transcript
-read_into levels places lines hierarchy = image_transcript levels places hierarchy.mode lines (loaded_of hierarchy.frames)
+read_into levels places lines hierarchy = image_transcript hierarchy.mode (statements_in levels places lines) (loaded_of hierarchy.frames)
 
 -- The input is read into this hierarchy, and its transcript is written.
 abbrev pub RunsFrom : (levels places : ℕ) → Hierarchy → (input : List ℕ) → (before after : Option (List ℕ)) → Ending → Type 0
@@ -110,7 +110,13 @@ ending_of (Err fault) = Stopped fault
 
 -- The transcript of the lines is that of those left, after the ones before were loaded.
 abbrev pub Follows : (levels places : ℕ) (lines : List Numbered) (before : Hierarchy) (left : List Numbered) (after : Hierarchy) → Type 0
-Follows levels places lines before left after = read_into levels places lines before ≡ image_transcript levels places before.mode left (loaded_of after.frames)
+Follows levels places lines before left after = read_into levels places lines before ≡ image_transcript before.mode (statements_in levels places left) (loaded_of after.frames)
+
+-- The first command, if there is one, and the statements of the lines behind it, with their numbers. The first has the number 0,
+-- since it is not bad, so that its number is never told.
+abbrev pub with_first : (levels places : ℕ) → (first : Option Command) → (behind : List Numbered) → List (ℕ × Option Statement)
+with_first levels places None behind = []
+with_first levels places (Some command) behind = (0, Some (Asks command)) ∷ statements_in levels places behind
 
 -- If there is a first command, it shows a slot of a frame below 2^52, if it shows one.
 abbrev pub IsFirstShown : Option Command → Type 0
@@ -119,7 +125,7 @@ IsFirstShown (Some command) = IsShown command
 
 -- The lines begin with an image, which was loaded, and those behind the first command are left.
 abbrev pub LoadsImage : (levels places : ℕ) → (lines : List Numbered) → (before : Hierarchy) → (first : Option Command) → (behind : List Numbered) → (after : Hierarchy) → Type 0
-LoadsImage levels places lines before first behind after = IsFirstShown first × (read_into levels places lines before ≡ tested_transcript levels places before.mode (loaded_of after.frames) first behind)
+LoadsImage levels places lines before first behind after = IsFirstShown first × (read_into levels places lines before ≡ tested_transcript before.mode (loaded_of after.frames) (with_first levels places first behind))
 
 -- The image ends at a bad line, or at a read that failed, and nothing is written.
 abbrev pub StopsInImage : (levels places : ℕ) (lines : List Numbered) → Hierarchy → Fault → Type 0
@@ -146,7 +152,7 @@ CommandStops command before after old new fault = ⊥
 
 -- The first command and the lines behind it were served.
 abbrev pub Served : (levels places : ℕ) → (first : Command) → (behind : List Numbered) → Hierarchy → (old new : Option (List ℕ)) → Ending → Type 0
-Served levels places first behind before old new ending = IsShown first → IsTold (first_served levels places (Some first) behind (situation_of before)) old new ending
+Served levels places first behind before old new ending = IsShown first → IsTold (served_transcript (with_first levels places (Some first) behind) (situation_of before)) old new ending
 
 -- A transcript behind these replies.
 abbrev pub behind_replies : List Reply → Transcript → Transcript
@@ -155,4 +161,4 @@ behind_replies replies rest = record { replies = replies ++ rest.replies; ending
 -- The first command and the lines up to those left were served.
 abbrev pub ServedUntil : (levels places : ℕ) → (first : Command) → (behind : List Numbered) → (before : Hierarchy) → (old new : Option (List ℕ)) → (left : List Numbered) → (after : Hierarchy) → Type 0
 ServedUntil levels places first behind before old new left after = IsShown first → (replies : List Reply) × Appends old new (flat_map reply_line replies)
-    × (first_served levels places (Some first) behind (situation_of before) ≡ behind_replies replies (served_transcript levels places left (situation_of after)))
+    × (served_transcript (with_first levels places (Some first) behind) (situation_of before) ≡ behind_replies replies (served_transcript (statements_in levels places left) (situation_of after)))
