@@ -13,7 +13,6 @@ use Rattle.x86_64_model.proofs.Lemmas.Machines.Giving.{giving_from}
 use Rattle.x86_64_model.proofs.Lemmas.Machines.Laws.{pairs_reply_alike, step_is_held}
 use Rattle.x86_64_mappers.specs.Recursive.{recursive_at}
 use Rattle.x86_64_mappers.specs.private.ImplLaws.{no_flags, present_writable}
-use Rattle.x86_64.specs.Asked.{MapperCall, machine_call}
 use Rattle.x86_64.specs.Pairs.{put_first}
 use Rattle.x86_64.specs.Replies.{Reply as CallReply, reply_of}
 use Rattle.x86_64.specs.Runs.{AfterStep, state_in, step_by}
@@ -89,16 +88,15 @@ module _ (levels : Levels) (index entry : ℕ) where
       pub pair : ArePair serves x.state y.state
       pub reply : x.reply ≡ y.reply
 
-    module _ (s t : State) (pair : ArePair serves s t) (call : MapperCall) (is : machine.IsCall L (machine_call L call)) where
+    module _ (s t : State) (pair : ArePair serves s t) (call : machine.Call) (is : machine.IsCall L call) where
       call_made : is_refused mode call ≡ false → AreAfter (step_by one s call) (step_by two t call)
       call_made unnamed =
-          let asked = machine_call L call in
           let runs = pairs_reply_alike one two refl refl gives_first no_flags present_writable pair.fits.0 pair.other_fits.0 0x1000 0x1000 serves serves
-          (asked ∷ []) (is, tt) (none_named (λ call. call) L (some_levels levels) one.window (call ∷ []) tt) (none_named (λ call. call) L (some_levels levels) two.window (call ∷ []) (unnamed, tt))
+          (call ∷ []) (is, tt) (none_named (λ call. call) L (some_levels levels) one.window (call ∷ []) tt) (none_named (λ call. call) L (some_levels levels) two.window (call ∷ []) (unnamed, tt))
           s t pair.fits.1 pair.other_fits.1 pair.alike pair.pools in
-          let held = step_is_held one (record { adds = no_flags.adds; gives = gives_first }) pair.fits.0 0x1000 serves s asked is pair.fits.1 in
-          let other_held = step_is_held two (record { adds = present_writable.adds; gives = gives_first }) pair.other_fits.0 0x1000 serves t asked is pair.other_fits.1 in
-          let same : (step one s asked).reply ≡ (step two t asked).reply = let all : ◌≡◌ {A = List machine.Reply} ((step one s asked).reply ∷ []) ((step two t asked).reply ∷ []) = runs.replies in cc in
+          let held = step_is_held one (record { adds = no_flags.adds; gives = gives_first }) pair.fits.0 0x1000 serves s call is pair.fits.1 in
+          let other_held = step_is_held two (record { adds = present_writable.adds; gives = gives_first }) pair.other_fits.0 0x1000 serves t call is pair.other_fits.1 in
+          let same : (step one s call).reply ≡ (step two t call).reply = let all : ◌≡◌ {A = List machine.Reply} ((step one s call).reply ∷ []) ((step two t call).reply ∷ []) = runs.replies in cc in
           record {
             pair = record { alike = runs.paths; pools = runs.pools; fits = (held.0, held.1); other_fits = (other_held.0, other_held.1) };
             reply = ap (reply_of call) same;
