@@ -106,6 +106,8 @@ pub use crate::tables::phys_memory::PlacesRefusal;
 pub use crate::tables::phys_memory::SegmentMapping;
 pub use crate::tables::phys_memory::SegmentRefusal;
 pub use crate::tables::phys_memory::ShiftMapping;
+pub use crate::tables::phys_memory::Step;
+pub use crate::tables::phys_memory::Steps;
 pub use crate::tables::phys_memory::TableMemory;
 pub use crate::tables::phys_memory::Walked;
 pub use crate::tables::tokens::page_after;

@@ -92,7 +92,7 @@ module _ (levels : Levels) (index entry : ℕ) where
       call_made : is_refused mode call ≡ false → AreAfter (step_by one s call) (step_by two t call)
       call_made unnamed =
           let runs = pairs_reply_alike one two refl refl gives_first no_flags present_writable pair.fits.0 pair.other_fits.0 0x1000 0x1000 serves serves
-          (call ∷ []) (is, tt) (none_named (λ call. call) L (some_levels levels) one.window (call ∷ []) tt) (none_named (λ call. call) L (some_levels levels) two.window (call ∷ []) (unnamed, tt))
+          (call ∷ []) (is, tt) (none_named {C = Unit {0}} (λ _. call) L (some_levels levels) (λ _. is) one.window (tt ∷ []) tt) (none_named {C = Unit {0}} (λ _. call) L (some_levels levels) (λ _. is) two.window (tt ∷ []) (unnamed, tt))
           s t pair.fits.1 pair.other_fits.1 pair.alike pair.pools in
           let held = step_is_held one (record { adds = no_flags.adds; gives = gives_first }) pair.fits.0 0x1000 serves s call is pair.fits.1 in
           let other_held = step_is_held two (record { adds = present_writable.adds; gives = gives_first }) pair.other_fits.0 0x1000 serves t call is pair.other_fits.1 in

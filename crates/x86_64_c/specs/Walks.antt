@@ -16,7 +16,8 @@ may_execute h p = (rights_in (steps (words h) p h.layout.levels h.layout.root)).
 abbrev pub result_written : (address : ℕ) → Rights → WalkResult
 result_written address r = record { address = address; write = r.write; user = r.user; execute = r.execute }
 
--- The arrival of a page walk to position p as it is written for C, by the last word that it reads and the rights that all its words grant.
+-- The arrival of a page walk to position p as it is written for C, by the last word that it reads and the rights that all words
+-- of the walk grant.
 abbrev pub told_by : (p : ℕ) → Rights → Option Step → Option WalkResult
 told_by p r last = option_map (λ to. result_written to r) (option_and_then (address_by p) last)
 
