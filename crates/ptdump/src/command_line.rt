@@ -1,5 +1,5 @@
 //! The command line that the program accepts.
-use crate::help::{COMMANDS, CommandHelp, MORE};
+use crate::help::{COMMANDS, CommandHelp, FILE, MORE};
 use crate::options::OPTIONS;
 use clap::{Arg, ArgAction, Command, Error};
 use std::alloc::Global;
@@ -44,7 +44,7 @@ fn file<'a>(alloc: Global) -> Arg<'a> {
     Arg::new(alloc, "file")
         .value_name("FILE")
         .required(true)
-        .help("The dump: an ELF core, a LiME file, or a raw file of physical memory")
+        .help(FILE)
 }
 
 /// Returns the argument for one or more addresses.

@@ -14,6 +14,9 @@ pub struct CommandHelp {
     pub more: &'static str,
 }
 
+/// What help says of the file.
+pub const FILE: &str = "The dump: an ELF core, a LiME file, or a raw file of physical memory";
+
 /// The help text of the program after the list of commands.
 pub const MORE: &str = "\
 FILE is a dump of an x86-64 machine's physical memory, or - for standard input:

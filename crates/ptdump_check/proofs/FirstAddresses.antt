@@ -12,7 +12,7 @@ use Rattle.ptdump_check.specs.ReachedTables.{first_address}
 use Rattle.x86_64_mappings.specs.Selections.{includes}
 use Rattle.ptdump_check.specs.declared.reached.positions.Positions.{Positions}
 use Rattle.ptdump_check.specs.declared.reached.search.Search.{Search}
-use Rattle.ptdump_check.specs.private.Reaching.{address_in, are_left_out, first_sought, first_address_of_each, kept, positions_of, searched, sought, sought_by, sought_in}
+use Rattle.ptdump_check.specs.private.Reaching.{address_leading_to, are_left_out, first_sought, first_address_of_each, kept, positions_of, searched, sought, sought_by, sought_in}
 use Rattle.ptdump_check.proofs.Asked.{all_wanted, inside}
 
 -- what no number has, only None has
@@ -29,7 +29,7 @@ Fits L m = m.start + m.size ≤ position_count L
 
 -- the addresses in the first of some mappings that leads to a frame
 abbrev Same : (L f : ℕ) → List Mapping → Type 0
-Same L f ms = option_map (address_in L f) (find (leads_to f) ms) ≡ option_map (λ m. raw L (m.start + (f - m.frame))) (find (leads_to f) ms)
+Same L f ms = option_map (address_leading_to L f) (find (leads_to f) ms) ≡ option_map (λ m. raw L (m.start + (f - m.frame))) (find (leads_to f) ms)
 
 -- an address in a mapping that leads to a frame is an address of the mapping
 same_address : (L f : ℕ) (ms : List Mapping) → AllByRecursion (Fits L) ms → Same L f ms
@@ -37,7 +37,7 @@ same_address L f [] fit = refl
 same_address L f (m ∷ ms) fit = by (leads_to f m) refl (same_address L f ms fit.1)
   where
     by : (b : Bool) → leads_to f m ≡ b → Same L f ms
-        → option_map (address_in L f) (cond b (Some m) (find (leads_to f) ms)) ≡ option_map (λ m. raw L (m.start + (f - m.frame))) (cond b (Some m) (find (leads_to f) ms))
+        → option_map (address_leading_to L f) (cond b (Some m) (find (leads_to f) ms)) ≡ option_map (λ m. raw L (m.start + (f - m.frame))) (cond b (Some m) (find (leads_to f) ms))
     by true leads rest = ap (λ p. Some (raw L p)) (mod-eq_of_lt (inside f m (position_count L) leads fit.0))
     by false leads rest = rest
 

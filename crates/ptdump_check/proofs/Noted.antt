@@ -8,7 +8,7 @@ use Rattle.std.specs.List.Sorted.{IsNonDecreasingBy}
 use Rattle.std.specs.Option.{option_or}
 use Rattle.x86_64_mappings.specs.Wanted.{leads_to}
 use Rattle.x86_64_model.specs.Mappings.{Mapping}
-use Rattle.ptdump_check.specs.private.Reaching.{address_in, first_address_of_each}
+use Rattle.ptdump_check.specs.private.Reaching.{address_leading_to, first_address_of_each}
 
 -- ---- to which frames a mapping leads
 
@@ -34,32 +34,32 @@ past a m low none = by (nat_le m.frame a) (nat_lt a (m.frame + m.size)) refl ref
 
 -- the first address, where there is one, or else that in a mapping
 abbrev pub noted : (L a : ℕ) → Mapping → Option ℕ → Option ℕ
-noted L a m o = option_or o (cond (leads_to a m) (Some (address_in L a m)) None)
+noted L a m o = option_or o (cond (leads_to a m) (Some (address_leading_to L a m)) None)
 
 or_none : (o : Option ℕ) → option_or o None ≡ o
 or_none None = refl
 or_none (Some a) = refl
 
 noted_not : (L a : ℕ) (m : Mapping) (o : Option ℕ) → leads_to a m ≡ false → noted L a m o ≡ o
-noted_not L a m o none = ap (λ b. option_or o (cond b (Some (address_in L a m)) None)) none ∙ or_none o
+noted_not L a m o none = ap (λ b. option_or o (cond b (Some (address_leading_to L a m)) None)) none ∙ or_none o
 
-pub noted_here : (L a : ℕ) (m : Mapping) (o : Option ℕ) → leads_to a m ≡ true → option_or o (Some (address_in L a m)) ≡ noted L a m o
-noted_here L a m o leads = ap (λ b. option_or o (cond b (Some (address_in L a m)) None)) (sym leads)
+pub noted_here : (L a : ℕ) (m : Mapping) (o : Option ℕ) → leads_to a m ≡ true → option_or o (Some (address_leading_to L a m)) ≡ noted L a m o
+noted_here L a m o leads = ap (λ b. option_or o (cond b (Some (address_leading_to L a m)) None)) (sym leads)
 
-first_more : (L a : ℕ) (ms : List Mapping) (m : Mapping) → option_map (address_in L a) (find (leads_to a) (ms ++ m ∷ [])) ≡ noted L a m (option_map (address_in L a) (find (leads_to a) ms))
-first_more L a ms m = ap (option_map (address_in L a)) (find-append (leads_to a) ms (m ∷ [])) ∙ by (find (leads_to a) ms) (leads_to a m)
+first_more : (L a : ℕ) (ms : List Mapping) (m : Mapping) → option_map (address_leading_to L a) (find (leads_to a) (ms ++ m ∷ [])) ≡ noted L a m (option_map (address_leading_to L a) (find (leads_to a) ms))
+first_more L a ms m = ap (option_map (address_leading_to L a)) (find-append (leads_to a) ms (m ∷ [])) ∙ by (find (leads_to a) ms) (leads_to a m)
   where
-    by : (o : Option Mapping) (b : Bool) → option_map (address_in L a) (option_or o (cond b (Some m) None)) ≡ option_or (option_map (address_in L a) o) (cond b (Some (address_in L a m)) None)
+    by : (o : Option Mapping) (b : Bool) → option_map (address_leading_to L a) (option_or o (cond b (Some m) None)) ≡ option_or (option_map (address_leading_to L a) o) (cond b (Some (address_leading_to L a m)) None)
     by (Some x) b = refl
     by None true = refl
     by None false = refl
 
 first_at : (L : ℕ) (frames : List ℕ) (ms : List Mapping) (j : ℕ) → j < length frames
-    → get_or (first_address_of_each L frames ms) j None ≡ option_map (address_in L (get_or frames j 0)) (find (leads_to (get_or frames j 0)) ms)
-first_at L frames ms j less = get_or-map (λ f. option_map (address_in L f) (find (leads_to f) ms)) frames j 0 None less
+    → get_or (first_address_of_each L frames ms) j None ≡ option_map (address_leading_to L (get_or frames j 0)) (find (leads_to (get_or frames j 0)) ms)
+first_at L frames ms j less = get_or-map (λ f. option_map (address_leading_to L f) (find (leads_to f) ms)) frames j 0 None less
 
 pub so_many : (L : ℕ) (frames : List ℕ) (ms : List Mapping) → length (first_address_of_each L frames ms) ≡ length frames
-so_many L frames ms = length-map frames (λ f. option_map (address_in L f) (find (leads_to f) ms))
+so_many L frames ms = length-map frames (λ f. option_map (address_leading_to L f) (find (leads_to f) ms))
 
 -- the notes are right if each is
 all_noted : (L : ℕ) (frames : List ℕ) (ms : List Mapping) (m : Mapping) (old new : List (Option ℕ)) → old ≡ first_address_of_each L frames ms → length new ≡ length old

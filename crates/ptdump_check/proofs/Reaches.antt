@@ -24,7 +24,7 @@ use Rattle.ptdump_check.specs.declared.reached.positions.Positions.{Positions}
 use Rattle.ptdump_check.specs.declared.reached.search.Found.{Found}
 use Rattle.ptdump_check.specs.declared.reached.search.Search.{Search}
 use Rattle.ptdump_check.specs.declared.reached.search.Visit.{Visit}
-use Rattle.ptdump_check.specs.private.Reaching.{address_in, are_apart, are_left_out, searched, is_sought, sought, sought_in, span_of_table, positions_of, first_address_of_each, kept, kept_below, address_is_within, Cover, IsFoundAfter, TakesFound}
+use Rattle.ptdump_check.specs.private.Reaching.{address_leading_to, are_apart, are_left_out, searched, is_sought, sought, sought_in, span_of_table, positions_of, first_address_of_each, kept, kept_below, address_is_within, Cover, IsFoundAfter, TakesFound}
 use Rattle.ptdump_check.proofs.Asked.{all_wanted}
 use Rattle.ptdump_check.proofs.Noted.{so_many}
 
@@ -243,7 +243,7 @@ smaller_within start size noted a le out = by (nat_le start a) (nat_lt a (start 
 
 firsts_same : (L : ℕ) (ms ns : List Mapping) → ((a : ℕ) → find (leads_to a) ms ≡ find (leads_to a) ns) → (frames : List ℕ) → first_address_of_each L frames ms ≡ first_address_of_each L frames ns
 firsts_same L ms ns same [] = refl
-firsts_same L ms ns same (f ∷ fs) = ap₂ (λ o os. o ∷ os) (ap (option_map (address_in L f)) (same f)) (firsts_same L ms ns same fs)
+firsts_same L ms ns same (f ∷ fs) = ap₂ (λ o os. o ∷ os) (ap (option_map (address_leading_to L f)) (same f)) (firsts_same L ms ns same fs)
 
 -- ---- a page that is sought or not
 

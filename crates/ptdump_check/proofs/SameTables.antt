@@ -186,17 +186,17 @@ module _ (T W : Words) where
   of_level level [] some h = tt
   of_level level (f ∷ frames) some h = ((frame_same level f some h.0, h.0), of_level level frames some h.1)
 
-  of_levels : (level : ℕ) (levels : List (List ℕ)) → 0 < level → LevelsFrom level levels → AllByRecursion TableSame (findings.tables_below level levels)
+  of_levels : (level : ℕ) (levels : List (List ℕ)) → 0 < level → LevelsFrom level levels → AllByRecursion TableSame (findings.tables_from_level level levels)
   of_levels level [] some h = tt
   of_levels level (frames ∷ above) some h = all_append TableSame _ _ (of_level level frames some h.0) (of_levels (level + 1) above (omega arith) h.1)
 
-  each_below : (L root : ℕ) → SameBelow L T W root → AllByRecursion TableSame (findings.tables_below 1 (tables_by_level L W root))
+  each_below : (L root : ℕ) → SameBelow L T W root → AllByRecursion TableSame (findings.tables_from_level 1 (tables_by_level L W root))
   unfolding tables_by_level
   each_below L root same = of_levels 1 _ (omega arith) (levels_from L (if_there W root) (root_below L root same))
 
   tables_below : (L root : ℕ) → SameBelow L T W root → AllByRecursion TableSame (tables_by_address (tables_by_level L W root))
   unfolding tables_by_address
-  tables_below L root same = all_in_order TableSame (λ t. t.frame) (findings.tables_below 1 (tables_by_level L W root)) (each_below L root same)
+  tables_below L root same = all_in_order TableSame (λ t. t.frame) (findings.tables_from_level 1 (tables_by_level L W root)) (each_below L root same)
 
   -- ---- names
 
@@ -295,7 +295,7 @@ module _ (T W : Words) where
   pub same_reserved : (L root : ℕ) → SameBelow L T W root → reserved_count L T root ≡ reserved_count L W root
   unfolding reserved_count
   same_reserved L root same =
-      let ts = findings.tables_below 1 (tables_by_level L W root) in
+      let ts = findings.tables_from_level 1 (tables_by_level L W root) in
       let all = each_below L root same in
-      ap (λ levels. min (length (reserved_entries T (findings.tables_below 1 levels))) (2 ^ 64 - 1)) (same_tables L root same)
+      ap (λ levels. min (length (reserved_entries T (findings.tables_from_level 1 levels))) (2 ^ 64 - 1)) (same_tables L root same)
       ∙ (λ i. min (length (same_entries flaws.HugePage ts all i ++ same_entries (flaws.ReservedBits processor) ts all i)) (2 ^ 64 - 1))

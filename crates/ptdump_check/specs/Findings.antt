@@ -37,14 +37,14 @@ has_flaw L UserInUpperHalf r = r.rights.user && nat_le (lower_half L) r.first
 
 -- The tables in these frames, which are lists of frames by level. The first list is of this level, and each next one of the level
 -- above.
-abbrev pub tables_below : (level : ℕ) → List (List ℕ) → List Table
-tables_below level [] = []
-tables_below level (frames ∷ above) = map (λ f. record { frame = f; level = level }) frames ++ tables_below (level + 1) above
+abbrev pub tables_from_level : (level : ℕ) → List (List ℕ) → List Table
+tables_from_level level [] = []
+tables_from_level level (frames ∷ above) = map (λ f. record { frame = f; level = level }) frames ++ tables_from_level (level + 1) above
 
 -- The tables in these frames, by address, where the first list of frames is of level one. A frame that has tables of several
 -- levels comes once for each of them, the lowest first.
 unfoldable pub tables_by_address : List (List ℕ) → List Table
-tables_by_address levels = in_order (λ t. t.frame) (tables_below 1 levels)
+tables_by_address levels = in_order (λ t. t.frame) (tables_from_level 1 levels)
 
 -- The entry at an index of a table, or None if T doesn't have the table.
 abbrev pub entry_in_table : Words → Table → (index : ℕ) → Option Entry

@@ -35,8 +35,8 @@ reached_at f None (Some at) = Some (MappedForUser f at)
 reached_at f None None = None
 
 -- The finding of the table in a frame to which a mapping for user code leads, or None if none does.
-abbrev pub reached : (L : ℕ) → Words → (root frame : ℕ) → Option Finding
-reached L T root f = reached_at f (first_address L T root writable_for_user f) (first_address L T root for_user f)
+abbrev pub reached_finding : (L : ℕ) → Words → (root frame : ℕ) → Option Finding
+reached_finding L T root f = reached_at f (first_address L T root writable_for_user f) (first_address L T root for_user f)
 
 -- The frames of tables, each once, if the tables are in the order of their frames.
 abbrev pub frames_in_order : List Table → List ℕ
@@ -44,4 +44,4 @@ frames_in_order tables = dedup (λ f g. f == g) (map (λ t. t.frame) tables)
 
 -- The findings of those tables to which a mapping for user code leads.
 unfoldable pub all_reached : (L : ℕ) → Words → (root : ℕ) → List Table → List Finding
-all_reached L T root tables = filter_map (reached L T root) (frames_in_order tables)
+all_reached L T root tables = filter_map (reached_finding L T root) (frames_in_order tables)

@@ -2,7 +2,7 @@
 use Rattle.std.specs.Prelude.{ℕ, ◌-◌, ◌^◌, ◌++◌, min, List, length}
 use Rattle.x86_64_dump.specs.Tables.{tables_by_level}
 use Rattle.x86_64_model.specs.Memory.{Words}
-use Rattle.ptdump_check.specs.Findings.{flawed_entries, processor, tables_below}
+use Rattle.ptdump_check.specs.Findings.{flawed_entries, processor, tables_from_level}
 use Rattle.ptdump_check.specs.declared.findings.entry.Table.{Table}
 use Rattle.ptdump_check.specs.declared.findings.finding.Finding.{Finding}
 use Rattle.ptdump_check.specs.declared.findings.finding.EntryFlaw.TheVariants as flaws
@@ -15,4 +15,4 @@ reserved_entries T tables = flawed_entries flaws.HugePage T tables ++ flawed_ent
 -- The number of words with reserved bits in the tables that a root leads to, with L levels of tables, or 2^64 - 1 if there are
 -- more. A word counts once for each level at which its table is.
 unfoldable pub reserved_count : (L : ℕ) → Words → (root : ℕ) → ℕ
-reserved_count L T root = min (length (reserved_entries T (tables_below 1 (tables_by_level L T root)))) (2 ^ 64 - 1)
+reserved_count L T root = min (length (reserved_entries T (tables_from_level 1 (tables_by_level L T root)))) (2 ^ 64 - 1)

@@ -11,7 +11,6 @@ use Rattle.x86_64_dump.specs.declared.error.Fault.{Fault}
 use Rattle.x86_64_dump.specs.declared.error.Fault.TheVariants as faults
 use Rattle.x86_64_dump.specs.declared.kernel_text.KernelText.{KernelText}
 use Rattle.x86_64_dump.specs.declared.note.Note.{Note}
-use Rattle.x86_64_dump.specs.Lime.{after}
 use Rattle.x86_64_dump.specs.declared.note.NoteKind.TheVariants.{VmCoreInfo}
 use Rattle.x86_64_dump.specs.declared.vmcoreinfo.Kernel.{Kernel}
 use Rattle.x86_64_dump.specs.declared.vmcoreinfo.KernelFault.{KernelFault}
@@ -57,7 +56,7 @@ register_text file note at = by (is_note_cut (length file) note at)
     by true = refl
     by false = tt
 
-text_after : {A B : Type 0} (found : Result A Fault) (next : A → Result B Fault) → FaultHasText found → ((a : A) → FaultHasText (next a)) → FaultHasText (after found next)
+text_after : {A B : Type 0} (found : Result A Fault) (next : A → Result B Fault) → FaultHasText found → ((a : A) → FaultHasText (next a)) → FaultHasText (and_then found next)
 text_after (Ok a) next has more = more a
 text_after (Err fault) next has more = has
 

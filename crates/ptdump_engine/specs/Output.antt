@@ -24,6 +24,6 @@ IsRefusal errors.OutOfMemory = ⊥
 IsRefusal (errors.Write refusal) = ⊤
 
 -- The failure of a run that ends for the error of an output: memory allocation failed, or a write was refused.
-abbrev pub failure_of : {W : Type 0} → OutputError W → Failure
-failure_of errors.OutOfMemory = failures.OutOfMemory
-failure_of (errors.Write refusal) = failures.Output
+abbrev pub output_failure : {W : Type 0} → OutputError W → Failure
+output_failure errors.OutOfMemory = failures.OutOfMemory
+output_failure (errors.Write refusal) = failures.Output

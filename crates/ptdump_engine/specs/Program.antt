@@ -5,7 +5,6 @@ use Rattle.std.specs.Option.{option_or}
 use Rattle.std.specs.Io.KnownBytes.{Appends}
 use Rattle.linux_areas.specs.declared.layout.Layout.{Layout}
 use Rattle.x86_64_dump.specs.Dump.{Contents, is_short, words_of_dump}
-use Rattle.x86_64_dump.specs.Lime.{after}
 use Rattle.x86_64_dump.specs.Loaded.{IsTableCount, up_to}
 use Rattle.x86_64_dump.specs.Formats.{format_of, is_raw}
 use Rattle.x86_64_dump.specs.KernelTexts.{kernel_texts}
@@ -153,7 +152,7 @@ is_searched request dump = not (is_some request.cr3 || is_of_processors request)
 -- The texts of VMCOREINFO that say where the kernel's root is: the one at the offset in the file that is given, or those in memory
 -- if this is searched. It is a fault if the text that is given can't be read.
 abbrev pub texts_by : (offset : Option ℕ) → (searched : Bool) → Contents → Result (List KernelText) Fault
-texts_by (Some offset) searched dump = after (text_at dump.file offset) (λ text. Ok (text ∷ []))
+texts_by (Some offset) searched dump = and_then (text_at dump.file offset) (λ text. Ok (text ∷ []))
 texts_by None searched dump = Ok (if searched then kernel_texts dump else [])
 
 -- The texts of VMCOREINFO in a dump that say where the kernel's root is for a request, or a fault if the one at the request's
@@ -165,12 +164,12 @@ texts_for request dump = texts_by request.vmcoreinfo (is_searched request dump) 
 -- the kernel marks encrypted memory. It is a fault if such a text can't be read.
 abbrev pub with_texts : Request → Contents → Result Contents Fault
 with_texts request dump =
-    after (texts_for request dump) (λ texts. Ok (decrypted (record dump { texts = texts })))
+    and_then (texts_for request dump) (λ texts. Ok (decrypted (record dump { texts = texts })))
 
 -- The contents of a file, read as a dump for a request, or the fault why it can't be read so.
 abbrev pub contents_for : Request → (file : List ℕ) → Result Contents Fault
 contents_for request file =
-    after (contents_as (format_for request file) file request.placement) (with_texts request)
+    and_then (contents_as (format_for request file) file request.placement) (with_texts request)
 
 -- The dump that a file is for a request, or the failure why it is none.
 abbrev pub dump_for : Request → (file : List ℕ) → Result Contents Failure
@@ -250,7 +249,7 @@ completeness_of command L T root = true
 
 -- The report of a request on words was written, if a specification says what it is, and the outcome says whether the request is
 -- fulfilled.
-pub record Reports (request : Request) (L : ℕ) (T : Words) (root : ℕ) (before after : Option (List ℕ))
+pub record ReportsOnWords (request : Request) (L : ℕ) (T : Words) (root : ℕ) (before after : Option (List ℕ))
     (outcome : Outcome) : Type 0 where
   pub text : IfSome (report_of request L T root) (Appends before after)
   pub complete : outcome.is_complete ≡ completeness_of request.command L T root
@@ -259,7 +258,7 @@ pub record Reports (request : Request) (L : ℕ) (T : Words) (root : ℕ) (befor
 -- leaves open. The outcome says whether the request is fulfilled.
 abbrev pub ReportsOf : Request → (before after : Option (List ℕ)) → Outcome → Opened → Type 0
 ReportsOf request before after outcome o =
-    Reports (resolved request o.dump o.start) (level_count o.start.levels)
+    ReportsOnWords (resolved request o.dump o.start) (level_count o.start.levels)
     (words_of_dump o.dump) o.start.root before after outcome
 
 -- The result and the output of a run that reports on tables below one root. It fails for its request or its file without writing

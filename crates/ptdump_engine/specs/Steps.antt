@@ -1,13 +1,9 @@
 -- Steps: expected results, step by step, and calls that return them.
 use Rattle.std.specs.Prelude.{◌≡◌, Bool, true, false, List, [], ◌∷◌, Option, None, Some, Result, Ok, Err, ⊤}
+pub use Rattle.x86_64_dump.specs.Steps.{and_then}
 use Rattle.x86_64_dump.specs.declared.error.Fault.{Fault}
 use Rattle.ptdump_engine.specs.declared.failure.Failure.{Failure}
 use Rattle.ptdump_engine.specs.declared.failure.Failure.TheVariants as failures
-
--- The result of the next step `f` on a value, or the failure if there is one.
-abbrev pub and_then : {A B : Type 0} → Result A Failure → (A → Result B Failure) → Result B Failure
-and_then (Ok a) f = f a
-and_then (Err failure) f = Err failure
 
 -- The result of reading a dump as a step of a run, of which a fault is the failure.
 abbrev pub of_dump : {A : Type 0} → Result A Fault → Result A Failure

@@ -181,7 +181,7 @@ pub fn report_from<S: ByteSource, W: Destination, E: Destination, G: Progress>(
     progress: &mut G,
 ) -> Result<Outcome, Failure>
     requires { program.IsTested request.now.command }
-    ensures written { S.IsKnown → IfOk result (program.Reports request.now
+    ensures written { S.IsKnown → IfOk result (program.ReportsOnWords request.now
         (program.level_count start.now.levels) (words_opened S.bytes dump.now) start.now.root
         (W.contents writer.old) (W.contents writer.new)) }
     ensures totals { S.IsKnown → OnOk result (program.is_image request.now.command ≡ false →
@@ -219,7 +219,7 @@ fn report<L: LevelCount, S: ByteSource, W: Destination, E: Destination, G: Progr
     progress: &mut G,
 ) -> Result<Outcome, Failure>
     requires { program.IsTested request.now.command }
-    ensures written { S.IsKnown → IfOk result (program.Reports request.now L.LEVELS
+    ensures written { S.IsKnown → IfOk result (program.ReportsOnWords request.now L.LEVELS
         (words_opened S.bytes dump.now) root (W.contents writer.old) (W.contents writer.new)) }
     ensures totals { S.IsKnown → OnOk result (program.is_image request.now.command ≡ false →
         (notes.new.writer.ghost_name ≡ notes.old.writer.ghost_name)

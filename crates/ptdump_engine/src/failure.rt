@@ -225,11 +225,11 @@ impl<T: Drop> From<AllocFailed<T>> for Failure {
 
 impl<W: Destination> From<OutputError<W>> for Failure {
     ghost use Rattle.std.specs.Prelude.{◌≡◌, false};
-    ghost use Rattle.ptdump_engine.specs.Output.{failure_of};
+    ghost use Rattle.ptdump_engine.specs.Output.{output_failure};
     ghost use Rattle.ptdump_engine.specs.Steps.{MayBeForced};
 
     ghost from_gives = { λ error failure.
-        MayBeForced false W.may_refuse failure × (failure ≡ failure_of error) };
+        MayBeForced false W.may_refuse failure × (failure ≡ output_failure error) };
 
     fn from(error: OutputError<W>) -> Failure {
         match error {

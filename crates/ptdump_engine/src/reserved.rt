@@ -2,7 +2,7 @@
 ghost use Rattle.std.specs.Prelude.{◌≡◌, ◌-◌, ◌^◌, IfOk, OnOk, length, map, min};
 ghost use Rattle.x86_64_dump.specs.Loaded.{frames_in, loaded_words};
 ghost use Rattle.x86_64_model.specs.Memory.{identity_places, words_of};
-ghost use Rattle.ptdump_check.specs.Findings.{flawed_entries, tables_below, HasBits};
+ghost use Rattle.ptdump_check.specs.Findings.{flawed_entries, tables_from_level, HasBits};
 ghost use Rattle.ptdump_check.specs.Loaded.{HasAllTables, words_loaded};
 ghost use Rattle.ptdump_check.specs.ReservedEntries.{reserved_entries};
 ghost use Rattle.ptdump_engine.specs.CheckReports.{said_of};
@@ -67,7 +67,7 @@ fn write_count<E: Destination>(count: u64, notes: &mut Output<'_, E>) -> Result<
 /// Returns the number of words with reserved bits in the tables, or 2^64 - 1 if there are more.
 fn count_reserved(tables: &DumpTables) -> Result<u64, AllocError>
     ensures { IfOk result (λ count. count ≡ min (length (reserved_entries (loaded_words tables.now)
-        (tables_below 1 (frames_in tables.now)))) (2 ^ 64 - 1)) }
+        (tables_from_level 1 (frames_in tables.now)))) (2 ^ 64 - 1)) }
 {
     let mut count = LineCount::new();
     write_reserved_entries::<LineCount>(tables, &mut count)?;
@@ -80,7 +80,7 @@ fn write_reserved_entries<O: LineOutput>(
     output: &mut O,
 ) -> Result<(), O::Error>
     ensures { OnOk result (O.Lines output.old output.new (map said_of
-        (reserved_entries (loaded_words tables.now) (tables_below 1 (frames_in tables.now))))) }
+        (reserved_entries (loaded_words tables.now) (tables_from_level 1 (frames_in tables.now))))) }
 {
     write_flawed_by_level::<O>(tables, EntryFlaw::HugePage, output)?;
     write_flawed_by_level::<O>(tables, EntryFlaw::ReservedBits(PROCESSOR), output)
@@ -94,7 +94,7 @@ fn write_flawed_by_level<O: LineOutput>(
 ) -> Result<(), O::Error>
     requires { HasBits flaw }
     ensures { OnOk result (O.Lines output.old output.new (map said_of
-        (flawed_entries flaw (loaded_words tables.now) (tables_below 1 (frames_in tables.now))))) }
+        (flawed_entries flaw (loaded_words tables.now) (tables_from_level 1 (frames_in tables.now))))) }
 {
     let memory = tables.memory();
     let levels = tables.frames();

@@ -4,7 +4,8 @@ use Rattle.serde_json.specs.Data.{Data, string, object, Members, member, no_memb
 use Rattle.x86_64_addr.specs.declared.level_count.Levels.{Levels}
 use Rattle.x86_64_dump.specs.declared.formats.Format.{Format}
 use Rattle.x86_64_dump.specs.declared.vmcoreinfo.Kernel.{Kernel}
-use Rattle.ptdump_json.specs.InfoTexts.{cut_text, format_name, mode_name}
+use Rattle.x86_64_dump.specs.Formats.{format_name}
+use Rattle.ptdump_json.specs.InfoTexts.{cut_text, mode_name}
 use Rattle.ptdump_json.specs.Json.{json_count, hexadecimal_string}
 use Rattle.ptdump_json.specs.Paging.{level_count, levels_by_cr4, mode_of}
 use Rattle.ptdump_json.specs.declared.mode.Mode.{Mode}

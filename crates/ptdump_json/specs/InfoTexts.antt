@@ -2,8 +2,8 @@
 use Rattle.std.specs.Prelude.{ℕ, ◌++◌, ◌==◌, if◌then◌else◌, List, [], Option, None, Some, codes, decimal}
 use Rattle.x86_64_addr.specs.declared.level_count.Levels.{Levels}
 use Rattle.x86_64_addr.specs.declared.level_count.Levels.TheVariants.{Four, Five}
+use Rattle.x86_64_dump.specs.Formats.{format_name}
 use Rattle.x86_64_dump.specs.declared.formats.Format.{Format}
-use Rattle.x86_64_dump.specs.declared.formats.Format.TheVariants.{Raw, Elf, Lime, Unread}
 use Rattle.x86_64_dump.specs.declared.kernel_text.KernelText.{KernelText}
 use Rattle.x86_64_dump.specs.declared.vmcoreinfo.Kernel.{Kernel}
 use Rattle.text.specs.Numbers.{hexadecimal}
@@ -15,13 +15,6 @@ use Rattle.ptdump_json.specs.declared.registers.Registers.{Registers}
 use Rattle.ptdump_json.specs.declared.start.Origin.{Origin}
 use Rattle.ptdump_json.specs.declared.start.Origin.TheVariants.{ByRequest, ByProcessor, ByKernel, ByText}
 use Rattle.ptdump_json.specs.declared.start.Start.{Start}
-
--- The name of a format that is read, or the text for one that isn't.
-abbrev pub format_name : Format → List ℕ
-format_name Raw = codes "raw"
-format_name Elf = codes "ELF core"
-format_name Lime = codes "LiME"
-format_name (Unread format) = codes "none that is read"
 
 -- The text of a dump's format.
 abbrev pub format_text : Format → List ℕ

@@ -14,12 +14,12 @@ abbrev pub area_of_region : Option Layout → (L : ℕ) → Region → Option Ar
 area_of_region layout L r = option_and_then (λ l. area_at l (raw L r.first) (raw L r.last)) layout
 
 -- The last position of a mapping, taken modulo the size of the address space of L levels of tables.
-abbrev pub last_address : (L : ℕ) → Mapping → ℕ
-last_address L m = (m.start + (m.size - 1)) % position_count L
+abbrev pub last_position_of : (L : ℕ) → Mapping → ℕ
+last_position_of L m = (m.start + (m.size - 1)) % position_count L
 
 -- The area of Linux's address space in which a mapping lies, with L levels of tables, or None if that isn't known.
 abbrev pub area_of_mapping : Option Layout → (L : ℕ) → Mapping → Option Area
-area_of_mapping layout L m = option_and_then (λ l. area_at l (raw L m.start) (raw L (last_address L m))) layout
+area_of_mapping layout L m = option_and_then (λ l. area_at l (raw L m.start) (raw L (last_position_of L m))) layout
 
 -- The last column of a line, behind two spaces: the name of an area if it is known, or else nothing.
 abbrev pub area_text : Option Area → List ℕ

@@ -3,8 +3,8 @@
 use Rattle.std.specs.Prelude.{ℕ, not, if◌then◌else◌, List, Result, Ok}
 use Rattle.x86_64_addr.specs.declared.level_count.Levels.{Levels}
 use Rattle.x86_64_addr.specs.declared.level_count.Levels.TheVariants.{Four, Five}
-use Rattle.x86_64_dump.specs.Lime.{after}
 use Rattle.x86_64_dump.specs.Notes.{register_of}
+use Rattle.x86_64_dump.specs.Steps.{and_then}
 use Rattle.x86_64_dump.specs.declared.error.Fault.{Fault}
 use Rattle.x86_64_dump.specs.declared.note.Note.{Note}
 use Rattle.x86_64_model.specs.Entry.{has}
@@ -18,9 +18,9 @@ mode_of cr0 cr4 = if not (has cr0 0x8000_0000) then NoPaging else if not (has cr
 
 -- The control registers of a processor by its note, or the fault that the note is too short.
 unfoldable pub registers_of : (file : List ℕ) → Note → Result Registers Fault
-registers_of file note = after (register_of file note 416) (λ cr3.
-    after (register_of file note 392) (λ cr0.
-    after (register_of file note 424) (λ cr4. Ok (record { cr0 = cr0; cr3 = cr3; cr4 = cr4 }))))
+registers_of file note = and_then (register_of file note 416) (λ cr3.
+    and_then (register_of file note 392) (λ cr0.
+    and_then (register_of file note 424) (λ cr4. Ok (record { cr0 = cr0; cr3 = cr3; cr4 = cr4 }))))
 
 -- The number of levels of tables, 4 or 5.
 abbrev pub level_count : Levels → ℕ

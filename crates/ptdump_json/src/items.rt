@@ -16,25 +16,11 @@ use x86_64_page::page::Size4KiB;
 #[derive(Clone, Copy)]
 pub struct DumpFormat(pub Format);
 
-impl DumpFormat {
-    /// Returns its name.
-    pub fn name(self) -> &'static str
-        ensures { result.now ≡ texts.format_name self.0 }
-    {
-        match self.0 {
-            Format::Raw => "raw",
-            Format::Elf => "ELF core",
-            Format::Lime => "LiME",
-            Format::Unread(_) => "none that is read",
-        }
-    }
-}
-
 impl Display for DumpFormat {
     ghost output = { λ format. Some (texts.format_text format.0) };
 
     fn fmt<W: Write>(&self, f: &mut Formatter<W>) -> FmtResult {
-        let name = self.name();
+        let name = self.0.name();
         write!(f, "format: {name}")
     }
 }

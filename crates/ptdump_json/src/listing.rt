@@ -43,7 +43,7 @@ impl Listing {
 
 /// Returns the last address of a mapping, within the address space.
 fn last_of<L: LevelCount>(mapping: &MappingIn<L>) -> VirtAddrIn<L>
-    ensures { result ≡ areas.last_address L.LEVELS mapping.now }
+    ensures { result ≡ areas.last_position_of L.LEVELS mapping.now }
 {
     VirtAddrIn::new_truncate(mapping.start.position() + (mapping.size() - 1))
 }

@@ -2,7 +2,7 @@
 use Rattle.std.proofs.Common.{◌≡◌, ◌+◌, ◌-◌, ◌≤◌, ℕ, true, leb-true, nat_le, List, length, take, drop, sym, ap, ◌∙◌, arith, take-take, drop-drop, length-take}
 use Rattle.std.proofs.lemmas.Bool.{and_parts}
 use Rattle.std.proofs.lemmas.List.{drop-take}
-use Rattle.x86_64_dump.specs.Source.{part_of}
+use Rattle.x86_64_dump.specs.Source.{bytes_at}
 use Rattle.x86_64_dump.specs.private.FileParts.{Part, has_frame_at}
 
 pub placed : (part : Part) (offset : ℕ) → has_frame_at part offset ≡ true → (part.start ≤ offset) × (offset + 4096 ≤ part.start + length part.bytes)
@@ -11,7 +11,7 @@ placed part offset has =
     (leb-true _ _ each.0, leb-true _ _ each.1)
 
 pub frame_within : (bytes : List ℕ) (start offset count : ℕ) → (start ≤ offset) × (offset + 4096 ≤ start + length (take count bytes))
-    → let at = offset - start in take (at + 4096 - at) (drop at bytes) ≡ part_of (take count bytes) at 4096
+    → let at = offset - start in take (at + 4096 - at) (drop at bytes) ≡ bytes_at (take count bytes) at 4096
 frame_within bytes start offset count place =
     let at = offset - start in
     let few : length (take count bytes) ≤ count = omega (arith, length-take count bytes) in
@@ -21,9 +21,9 @@ frame_within bytes start offset count place =
     ∙ sym (take-take 4096 (count - at) (drop at bytes) (omega (arith, place.0, place.1, few)))
     ∙ ap (take 4096) (sym (drop-take at (count - at) bytes) ∙ ap (λ n. drop at (take n bytes)) rest)
 
-pub frame_shown : (file bytes : List ℕ) (start offset count : ℕ) → take count bytes ≡ part_of file start (length (take count bytes))
+pub frame_shown : (file bytes : List ℕ) (start offset count : ℕ) → take count bytes ≡ bytes_at file start (length (take count bytes))
     → (start ≤ offset) × (offset + 4096 ≤ start + length (take count bytes))
-    → let at = offset - start in take (at + 4096 - at) (drop at bytes) ≡ part_of file offset 4096
+    → let at = offset - start in take (at + 4096 - at) (drop at bytes) ≡ bytes_at file offset 4096
 frame_shown file bytes start offset count is place =
     let at = offset - start in
     let size = length (take count bytes) in

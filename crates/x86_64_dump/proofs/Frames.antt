@@ -1,5 +1,5 @@
 -- Frames: their offsets, and the words of a part of a file.
-use Rattle.std.proofs.Common.{◌≡◌, ℕ, ◌+◌, ◌*◌, ◌≤◌, ◌<◌, Bool, true, false, cond, List, [], ◌∷◌, Option, Some, None, is_some, map, take, eq-eqb, ◌%◌, ◌^◌, length, refl, ap, sym, subst, ◌∙◌, arith, leb-true, nat_le, IfSome, ◌==◌, ◌&&◌}
+use Rattle.std.proofs.Common.{◌≡◌, ℕ, ◌+◌, ◌*◌, ◌≤◌, ◌<◌, Bool, true, false, cond, List, [], ◌∷◌, Option, Some, None, is_some, map, take, eq-eqb, ◌%◌, ◌^◌, length, refl, ap, sym, subst, ◌∙◌, arith, leb-true, nat_le, IfSome, ◌&&◌}
 use Rattle.std.specs.List.{find, range_with_len}
 use Rattle.std.specs.Option.{option_map}
 use Rattle.x86_64_model.specs.Entry.{is_frame, address}
@@ -9,7 +9,7 @@ use Rattle.x86_64_dump.specs.Dump.{Contents, without_bits, has_frame, frame_offs
 use Rattle.x86_64_dump.specs.declared.segment.Segment.{Segment}
 use Rattle.std.proofs.lemmas.Bool.{and_parts}
 use Rattle.std.proofs.lemmas.List.{take_all}
-use Rattle.x86_64_dump.specs.Source.{part_of}
+use Rattle.x86_64_dump.specs.Source.{bytes_at}
 use Rattle.x86_64_model.proofs.Lemmas.Entries.Words.{address-multiple}
 use Rattle.x86_64_dump.proofs.Parts.{Shows, part_shows, u64_shown, map_range_same}
 
@@ -48,11 +48,11 @@ unfolding words_of_dump
 no_frame dump f lacks = ap (λ b. cond b (option_map (words_at dump.cleared dump.file) (frame_offset (length dump.file) dump.segments f)) None) lacks
 
 pub frame_words : (dump : Contents) (frame size offset : ℕ) (part words : List ℕ) → size ≡ length dump.file → is_frame frame ≡ true → frame_offset size dump.segments frame ≡ Some offset
-    → part ≡ part_of dump.file offset 4096 → words ≡ words_at dump.cleared part 0 → Some words ≡ words_of_dump dump frame
+    → part ≡ bytes_at dump.file offset 4096 → words ≡ words_at dump.cleared part 0 → Some words ≡ words_of_dump dump frame
 unfolding words_of_dump
 frame_words dump frame size offset part words long is has read told =
     let place : frame_offset (length dump.file) dump.segments frame ≡ Some offset = ap (λ n. frame_offset n dump.segments frame) (sym long) ∙ has in
-    let shown = words_shown dump.cleared (part_of dump.file offset 4096) dump.file offset (part_shows dump.file offset 4096) in
+    let shown = words_shown dump.cleared (bytes_at dump.file offset 4096) dump.file offset (part_shows dump.file offset 4096) in
     ap Some (told ∙ ap (λ bytes. words_at dump.cleared bytes 0) read ∙ shown)
     ∙ sym (ap (λ place. cond (is_frame frame) (option_map (words_at dump.cleared dump.file) place) None) place ∙ ap (λ b. cond {A = Option (List ℕ)} b (Some (words_at dump.cleared dump.file offset)) None) is)
 

@@ -3,7 +3,7 @@ use Rattle.std.proofs.Common.{◌≡◌, ℕ, zero, suc, ◌+◌, ◌*◌, ◌/�
 use Rattle.std.proofs.lemmas.List.{append-nil}
 use Rattle.std.proofs.lemmas.List.FromFn.{map-range_with_len_more}
 use Rattle.x86_64_dump.specs.Dump.{segment_at, segments_at}
-use Rattle.x86_64_dump.specs.Source.{part_of}
+use Rattle.x86_64_dump.specs.Source.{bytes_at}
 use Rattle.x86_64_dump.specs.declared.segment.Segment.{Segment}
 use Rattle.x86_64_dump.proofs.Parts.{part_shows, segment_shown, map_range_same}
 
@@ -30,12 +30,12 @@ next_piece file offset before (suc more) =
     let joined = append_assoc (segments_at file offset before) (segments_at file (offset + 56 * before) more) (segment_at file (offset + 56 * before + 56 * more) ∷ []) in
     cc
 
-pub piece_read : (file : List ℕ) (offset count : ℕ) → segments_at (part_of file offset (56 * count)) 0 count ≡ segments_at file offset count
+pub piece_read : (file : List ℕ) (offset count : ℕ) → segments_at (bytes_at file offset (56 * count)) 0 count ≡ segments_at file offset count
 piece_read file offset count =
-    map_range_same (λ i. segment_at (part_of file offset (56 * count)) (0 + 56 * i)) (λ i. segment_at file (offset + 56 * i)) 0 count
-    (λ i low high. segment_shown (part_of file offset (56 * count)) file (0 + 56 * i) offset (56 * count) (part_shows file offset (56 * count)) (omega arith) ∙ ap (segment_at file) (omega arith))
+    map_range_same (λ i. segment_at (bytes_at file offset (56 * count)) (0 + 56 * i)) (λ i. segment_at file (offset + 56 * i)) 0 count
+    (λ i low high. segment_shown (bytes_at file offset (56 * count)) file (0 + 56 * i) offset (56 * count) (part_shows file offset (56 * count)) (omega arith) ∙ ap (segment_at file) (omega arith))
 
-pub piece_added : (part file : List ℕ) (offset count size : ℕ) (old new : List Segment) → size ≡ 56 * count → length part ≡ size → part ≡ part_of file offset size
+pub piece_added : (part file : List ℕ) (offset count size : ℕ) (old new : List Segment) → size ≡ 56 * count → length part ≡ size → part ≡ bytes_at file offset size
     → new ≡ old ++ segments_at part 0 (length part / 56) → old ++ segments_at file offset count ≡ new
 piece_added part file offset count size old new long all read pushed =
     let counted : length part / 56 ≡ count = omega arith in

@@ -7,7 +7,7 @@ use Rattle.std.proofs.iter.Rest.{range_with_len_first, range_with_len_none}
 use Rattle.std.proofs.lemmas.List.{drop-take, length-drop, take_all}
 use Rattle.x86_64_dump.specs.KernelTexts.{begins_text, line_begins, memory_size, page_count, page_gap, page_texts, segment_texts, text_begins, text_in_page, texts_in, texts_within}
 use Rattle.x86_64_dump.specs.Notes.{fitting}
-use Rattle.x86_64_dump.specs.Source.{part_of}
+use Rattle.x86_64_dump.specs.Source.{bytes_at}
 use Rattle.x86_64_dump.specs.declared.error.Fault.{Fault}
 use Rattle.x86_64_dump.specs.declared.kernel_text.KernelText.{KernelText}
 use Rattle.x86_64_dump.specs.declared.segment.Segment.{Segment}
@@ -69,13 +69,13 @@ begins_nowhere page at all first =
 -- ---- pages
 
 -- the texts in the pages behind the first one
-behind_first : (page pages offset : ℕ) (bytes : List ℕ) → flat_map (λ page. page_texts (offset + 4096 * page) (part_of bytes (4096 * page) 4096)) (range_with_len (page + 1) pages)
-    ≡ flat_map (λ page. page_texts (offset + 4096 + 4096 * page) (part_of (drop 4096 bytes) (4096 * page) 4096)) (range_with_len page pages)
+behind_first : (page pages offset : ℕ) (bytes : List ℕ) → flat_map (λ page. page_texts (offset + 4096 * page) (bytes_at bytes (4096 * page) 4096)) (range_with_len (page + 1) pages)
+    ≡ flat_map (λ page. page_texts (offset + 4096 + 4096 * page) (bytes_at (drop 4096 bytes) (4096 * page) 4096)) (range_with_len page pages)
 behind_first page zero offset bytes = refl
 behind_first page (suc pages) offset bytes =
     let place : offset + 4096 * (page + 1) ≡ offset + 4096 + 4096 * page = omega arith in
     let counted : 4096 * (page + 1) ≡ 4096 + 4096 * page = omega arith in
-    let part : part_of bytes (4096 * (page + 1)) 4096 ≡ part_of (drop 4096 bytes) (4096 * page) 4096 =
+    let part : bytes_at bytes (4096 * (page + 1)) 4096 ≡ bytes_at (drop 4096 bytes) (4096 * page) 4096 =
     ap (λ n. take 4096 (drop n bytes)) counted ∙ ap (take 4096) (sym (drop-drop (4096 * page) 4096 bytes)) in
     ap₂ (λ front back. front ++ back) (ap₂ page_texts place part) (behind_first (page + 1) pages offset bytes)
 
@@ -115,7 +115,7 @@ taken (suc pages) offset bytes =
     ∙ ap (λ ts. page_texts offset (take 4096 bytes) ++ ts) (taken pages (offset + 4096) (drop 4096 bytes))
     ∙ sym (first_page pages offset bytes)
 
-pub chunk_added : (part file : List ℕ) (offset pages size : ℕ) (old new : List KernelText) → size ≡ 4096 * pages → length part ≡ size → part ≡ part_of file offset size
+pub chunk_added : (part file : List ℕ) (offset pages size : ℕ) (old new : List KernelText) → size ≡ 4096 * pages → length part ≡ size → part ≡ bytes_at file offset size
     → new ≡ old ++ texts_in (length part / 4096) offset part → old ++ texts_in pages offset (drop offset file) ≡ new
 chunk_added part file offset pages size old new sized long read pushed =
     let counted : length part / 4096 ≡ pages = omega (arith, sized, long) in

@@ -11,7 +11,6 @@ mod Placed
 pub mod Places
 mod Held
 mod Rows
-mod Ranges
 pub mod Lines
 pub mod Digits
 pub mod Merging

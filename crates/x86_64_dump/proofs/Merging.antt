@@ -1,5 +1,5 @@
 -- Merging of stretches: the state between two steps.
-use Rattle.std.proofs.Common.{◌≡◌, ℕ, ◌≤◌, ◌<◌, ◌+◌, ◌==◌, Bool, true, false, cond, List, [], ◌∷◌, ◌++◌, Option, None, Some, length, refl, ap, ap₂, sym, subst, ◌∙◌, arith, eqb-true, eq-eqb, nat_le, le-leb, ⊎_elim}
+use Rattle.std.proofs.Common.{◌≡◌, ℕ, ◌≤◌, ◌<◌, ◌==◌, Bool, true, false, cond, List, [], ◌∷◌, ◌++◌, Option, None, Some, length, refl, ap, ap₂, sym, subst, ◌∙◌, arith, eqb-true, eq-eqb, nat_le, le-leb, ⊎_elim}
 use Rattle.std.specs.List.{fold}
 use Rattle.std.specs.Option.{option_or, unwrap_or}
 use Rattle.std.proofs.lemmas.Option.{none-some}

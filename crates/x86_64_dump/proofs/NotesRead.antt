@@ -5,9 +5,9 @@ use Rattle.std.proofs.lemmas.List.{length-drop, take_all}
 use Rattle.std.proofs.Math.Nat.{min-eq_left, min-eq_right}
 use Rattle.std.proofs.Math.Seq.{take-append_seam}
 use Rattle.x86_64_dump.specs.VmCoreInfo.{descriptor_of, text_of}
-use Rattle.x86_64_dump.specs.Lime.{after}
+use Rattle.x86_64_dump.specs.Steps.{and_then}
 use Rattle.x86_64_dump.specs.Numbers.{u32_at, u64_at}
-use Rattle.x86_64_dump.specs.Source.{part_of}
+use Rattle.x86_64_dump.specs.Source.{bytes_at}
 use Rattle.x86_64_dump.specs.Notes.{padded, kind_named, kind_at, note_at, notes_size, is_note_cut, register_of}
 use Rattle.x86_64_dump.specs.private.NotesLeft.{is_whole, if_kept, kept_notes, notes_left_in, notes_within}
 use Rattle.x86_64_dump.specs.declared.note.Note.{Note}
@@ -21,19 +21,19 @@ use Rattle.x86_64_dump.proofs.Parts.{part_shows, u32_shown, u64_shown}
 pub long_name : (file : List ℕ) (at size : ℕ) → size ≡ u32_at file at → 11 < size → Other ≡ kind_at file at
 unfolding kind_at
 long_name file at size read long =
-    sym (ap (λ n. cond (nat_lt 11 n) Other (kind_named (part_of file (at + 12) n))) (sym read)
-    ∙ ap (λ b. cond b Other (kind_named (part_of file (at + 12) size))) (lt-ltb 11 size long))
+    sym (ap (λ n. cond (nat_lt 11 n) Other (kind_named (bytes_at file (at + 12) n))) (sym read)
+    ∙ ap (λ b. cond b Other (kind_named (bytes_at file (at + 12) size))) (lt-ltb 11 size long))
 
 add_zero : (n : ℕ) → n + 0 ≡ n
 add_zero n = omega arith
 
 -- from the bytes of the name
-pub name_read : (file name : List ℕ) (at size : ℕ) → size ≡ u32_at file at → size ≤ 11 → name ≡ part_of file (at + 12) size → kind_named name ≡ kind_at file at
+pub name_read : (file name : List ℕ) (at size : ℕ) → size ≡ u32_at file at → size ≤ 11 → name ≡ bytes_at file (at + 12) size → kind_named name ≡ kind_at file at
 unfolding kind_at
 name_read file name at size read short given =
     ap kind_named given
-    ∙ sym (ap (λ n. cond (nat_lt 11 n) Other (kind_named (part_of file (at + 12) n))) (sym read)
-    ∙ ap (λ b. cond b Other (kind_named (part_of file (at + 12) size))) (le-ltb 11 size short))
+    ∙ sym (ap (λ n. cond (nat_lt 11 n) Other (kind_named (bytes_at file (at + 12) n))) (sym read)
+    ∙ ap (λ b. cond b Other (kind_named (bytes_at file (at + 12) size))) (le-ltb 11 size short))
 
 pub not_whole : (file : List ℕ) (at left name_size size : ℕ) → name_size ≡ u32_at file at → size ≡ u32_at file (at + 4) → left < 12 + padded name_size + size → is_whole file at left ≡ false
 unfolding is_whole
@@ -45,11 +45,11 @@ unfolding is_whole
 whole file at left name_size size named sized fits =
     ap (λ n. nat_le (12 + padded n + u32_at file (at + 4)) left) (sym named) ∙ ap (λ n. nat_le (12 + padded name_size + n) left) (sym sized) ∙ le-leb _ _ fits
 
-pub name_size_read : (file head : List ℕ) (at size : ℕ) → head ≡ part_of file at 12 → size ≡ u32_at head 0 → size ≡ u32_at file at
+pub name_size_read : (file head : List ℕ) (at size : ℕ) → head ≡ bytes_at file at 12 → size ≡ u32_at head 0 → size ≡ u32_at file at
 name_size_read file head at size read told =
     told ∙ ap (λ part. u32_at part 0) read ∙ u32_shown _ file 0 at 12 (part_shows file at 12) (omega arith) ∙ ap (u32_at file) (add_zero at)
 
-pub size_read : (file head : List ℕ) (at size : ℕ) → head ≡ part_of file at 12 → size ≡ u32_at head 4 → size ≡ u32_at file (at + 4)
+pub size_read : (file head : List ℕ) (at size : ℕ) → head ≡ bytes_at file at 12 → size ≡ u32_at head 4 → size ≡ u32_at file (at + 4)
 size_read file head at size read told = told ∙ ap (λ part. u32_at part 4) read ∙ u32_shown _ file 4 at 12 (part_shows file at 12) (omega arith)
 
 pub too_short : (file : List ℕ) (at left : ℕ) → left < 12 → is_whole file at left ≡ false
@@ -101,7 +101,7 @@ unfolding register_of
 register_cut file note at size cut long test is =
     ap (λ b. cond b (Err (faults.NoteCut note.offset note.size (at + 8))) (Ok (u64_at file (note.offset + at)))) (ap (λ n. is_note_cut n note at) (sym long) ∙ sym test ∙ is)
 
-pub register_read : (file register : List ℕ) (note : Note) (at size value : ℕ) (cut : Bool) → size ≡ length file → cut ≡ is_note_cut size note at → cut ≡ false → register ≡ part_of file (note.offset + at) 8 → value ≡ u64_at register 0
+pub register_read : (file register : List ℕ) (note : Note) (at size value : ℕ) (cut : Bool) → size ≡ length file → cut ≡ is_note_cut size note at → cut ≡ false → register ≡ bytes_at file (note.offset + at) 8 → value ≡ u64_at register 0
     → register_of file note at ≡ Ok value
 unfolding register_of
 register_read file register note at size value cut long test is read told =
@@ -160,21 +160,21 @@ pub within_end : (kind : NoteKind) (file : List ℕ) (segments : List Segment) (
 within_end kind file segments i room notes all none before = ap Ok (sym before ∙ ap (λ after. notes ++ notes_within kind room file after) none ∙ append-nil notes)
 
 -- the descriptor of a note, of which the file may lack a part
-pub descriptor_read : (file : List ℕ) (note : Note) (long size : ℕ) → long ≡ length file → size ≡ min (min note.size 0x1_0000) (long - note.offset) → part_of file note.offset size ≡ descriptor_of file note
+pub descriptor_read : (file : List ℕ) (note : Note) (long size : ℕ) → long ≡ length file → size ≡ min (min note.size 0x1_0000) (long - note.offset) → bytes_at file note.offset size ≡ descriptor_of file note
 descriptor_read file note long size counted is =
     let n = min note.size 0x1_0000 in
     let left = length file - note.offset in
-    ap (part_of file note.offset) (is ∙ ap (λ all. min n (all - note.offset)) counted)
+    ap (bytes_at file note.offset) (is ∙ ap (λ all. min n (all - note.offset)) counted)
     ∙ ⊎_elim
-    (λ less. ap (part_of file note.offset) (min-eq_right {n = left} {m = n} (omega (arith, less)))
+    (λ less. ap (bytes_at file note.offset) (min-eq_right {n = left} {m = n} (omega (arith, less)))
     ∙ take_all left (drop note.offset file) (omega (arith, length-drop note.offset file))
     ∙ sym (take_all n (drop note.offset file) (omega (arith, less, length-drop note.offset file))))
-    (λ fits. ap (part_of file note.offset) (min-eq_left {n = n} {m = left} fits))
+    (λ fits. ap (bytes_at file note.offset) (min-eq_left {n = n} {m = left} fits))
     (cases_lt left n)
 
 -- the descriptor from a buffer
 pub descriptor_whole : (file buffer rest : List ℕ) (note : Note) (long size n : ℕ) → long ≡ length file → size ≡ min (min note.size 0x1_0000) (long - note.offset)
-    → buffer ≡ part_of file note.offset size → length buffer ≡ n → descriptor_of file note ≡ take n (buffer ++ rest)
+    → buffer ≡ bytes_at file note.offset size → length buffer ≡ n → descriptor_of file note ≡ take n (buffer ++ rest)
 descriptor_whole file buffer rest note long size n counted is read filled =
     sym (descriptor_read file note long size counted is) ∙ sym read ∙ sym (ap (λ m. take m (buffer ++ rest)) (sym filled) ∙ take-append_seam buffer rest)
 
@@ -189,4 +189,4 @@ pub text_ended : (file : List ℕ) (note : Note) (read now : List ℕ) → note.
     → ◌≡◌ {A = Result (List ℕ) Fault} (Ok (text_of file note)) (Ok now)
 text_ended file note read now short is pushed =
     ap (λ b. Ok (descriptor_of file note ++ cond b [] (10 ∷ []))) (le-ltb 0x1_0000 note.size short)
-    ∙ ap (λ found. after found (λ bytes. Ok (bytes ++ 10 ∷ []))) is ∙ ap Ok (sym pushed)
+    ∙ ap (λ found. and_then found (λ bytes. Ok (bytes ++ 10 ∷ []))) is ∙ ap Ok (sym pushed)

@@ -1,6 +1,7 @@
 -- Openings: the segments of an ELF file, step by step, and why they can't be read.
 use Rattle.std.proofs.Common.{◌≡◌, ℕ, Bool, false, true≢false, List, Option, Some, None, Result, Ok, Err, ap, sym, ◌∙◌, length}
-use Rattle.x86_64_dump.specs.Opening.{OpensAs, GivesAtOnce, elf_segments, header_fault, table_fault, count_of, with_memory}
+use Rattle.x86_64_dump.specs.Opening.{OpensAs, GivesAtOnce}
+use Rattle.x86_64_dump.specs.Formats.Elf.{elf_segments, header_fault, table_fault, count_of, with_memory}
 use Rattle.x86_64_dump.specs.Placement.{unless_fault}
 use Rattle.x86_64_dump.specs.Dump.{segments_at}
 use Rattle.x86_64_dump.specs.declared.header.Header.{Header}

@@ -6,15 +6,14 @@ use Rattle.std.proofs.lemmas.Bool.{cases_lt}
 use Rattle.std.proofs.lemmas.List.{length-take, get_or_append_left, get_or-take, get_or-drop, get_or-replicate, get_or_past, get_or-append_right}
 use Rattle.x86_64_dump.specs.Numbers.{u16_at, u32_at, u64_at}
 use Rattle.x86_64_dump.specs.Dump.{segment_at}
-use Rattle.x86_64_dump.specs.Lime.{range_header_at}
-use Rattle.x86_64_dump.specs.Opening.{header_of}
-use Rattle.x86_64_dump.specs.Source.{part_of}
+use Rattle.x86_64_dump.specs.Formats.Elf.{header_of}
+use Rattle.x86_64_dump.specs.Source.{bytes_at}
 
 -- the first bytes of a part are the bytes of the file from an offset on, and 0 past the file's end
 pub record Shows (part file : List ℕ) (offset count : ℕ) : Type 0 where
   pub bytes : (i : ℕ) → i < count → get_or part i 0 ≡ get_or file (offset + i) 0
 
-pub part_shows : (file : List ℕ) (offset count : ℕ) → Shows (part_of file offset count) file offset count
+pub part_shows : (file : List ℕ) (offset count : ℕ) → Shows (bytes_at file offset count) file offset count
 part_shows file offset count = record { bytes = λ i below. get_or-take count (drop offset file) i 0 below ∙ get_or-drop offset file i 0 }
 
 sum_through_same : (f g : ℕ → ℕ) (k : ℕ) → ((i : ℕ) → i ≤ k → f i ≡ g i) → sum_through f k ≡ sum_through g k
@@ -69,20 +68,10 @@ header_shown front file shows =
     let count = u16_shown front file 56 0 64 shows (omega arith) in
     cc
 
-pub range_header_shown : (part file : List ℕ) (offset : ℕ) → Shows part file offset 32 → range_header_at part 0 ≡ range_header_at file offset
-unfolding range_header_at
-range_header_shown part file offset shows =
-    let start : offset + 0 ≡ offset = omega arith in
-    let magic : u32_at part 0 ≡ u32_at file offset = u32_shown part file 0 offset 32 shows (omega arith) ∙ ap (u32_at file) start in
-    let version = u32_shown part file 4 offset 32 shows (omega arith) in
-    let first = u64_shown part file 8 offset 32 shows (omega arith) in
-    let last = u64_shown part file 16 offset 32 shows (omega arith) in
-    cc
-
 zero_of_zeros : (n i : ℕ) → i < n → get_or {A = ℕ} (replicate n 0) i 0 ≡ 0
 zero_of_zeros n i below = get_or-replicate n i 0 0 below
 
-before_end : (part rest file : List ℕ) (present i : ℕ) → part ≡ part_of file 0 present → length part ≡ present → i < present → get_or (part ++ rest) i 0 ≡ get_or file (0 + i) 0
+before_end : (part rest file : List ℕ) (present i : ℕ) → part ≡ bytes_at file 0 present → length part ≡ present → i < present → get_or (part ++ rest) i 0 ≡ get_or file (0 + i) 0
 before_end part rest file present i read long inside =
     get_or_append_left part rest 0 i (omega arith) ∙ ap (λ bytes. get_or bytes i 0) read ∙ (part_shows file 0 present).bytes i inside
 
@@ -94,11 +83,11 @@ after_end part file present i long ended below past =
     ∙ sym (get_or_past file (0 + i) 0 (omega arith))
 
 -- the bytes up to the file's end, and bytes 0 after it
-pub front_shows : (front part file : List ℕ) (present : ℕ) → front ≡ part ++ drop present (replicate 64 0) → part ≡ part_of file 0 (length {A = ℕ} (take present (replicate 64 0))) → present ≡ min (length file) 64 → Shows front file 0 64
+pub front_shows : (front part file : List ℕ) (present : ℕ) → front ≡ part ++ drop present (replicate 64 0) → part ≡ bytes_at file 0 (length {A = ℕ} (take present (replicate 64 0))) → present ≡ min (length file) 64 → Shows front file 0 64
 front_shows front part file present whole read size = record {
   bytes = λ i below.
       let asked : length {A = ℕ} (take present (replicate 64 0)) ≡ present = length-take present (replicate {A = ℕ} 64 0) ∙ omega arith in
-      let got : part ≡ part_of file 0 present = read ∙ ap (part_of file 0) asked in
+      let got : part ≡ bytes_at file 0 present = read ∙ ap (bytes_at file 0) asked in
       let long : length part ≡ present = ap length got ∙ length-take present file ∙ omega arith in
       ap (λ bytes. get_or bytes i 0) whole ∙ ⊎_elim
       (λ inside. before_end part (drop present (replicate 64 0)) file present i got long inside)

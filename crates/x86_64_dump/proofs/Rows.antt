@@ -4,7 +4,7 @@ use Rattle.std.specs.Cmp.Lexicographic.{pointwise}
 use Rattle.std.specs.List.{find, list_all, starts_with}
 use Rattle.std.proofs.lemmas.Bool.{leb-true}
 use Rattle.std.proofs.lemmas.List.{drop-take, length-take, take-take, take_min}
-use Rattle.x86_64_dump.specs.Source.{part_of}
+use Rattle.x86_64_dump.specs.Source.{bytes_at}
 use Rattle.x86_64_dump.specs.Formats.{Row, format_of, has_magic, rows}
 use Rattle.x86_64_dump.specs.private.Magics.{first_format}
 use Rattle.x86_64_dump.specs.declared.formats.Format.{Format}
@@ -56,7 +56,7 @@ pub start_format : (file : List ℕ) → format_of (take 64 file) ≡ format_of 
 unfolding format_of
 start_format file = ap (λ found. unwrap_or (option_map (λ (row : Row). row.format) found) formats.Raw) (start_rows file rows refl)
 
-pub start_read : (start file : List ℕ) (present size : ℕ) → start ≡ part_of file 0 (length {A = ℕ} (take present (replicate 64 0))) → present ≡ min size 64 → size ≡ length file → format_of start ≡ format_of file
+pub start_read : (start file : List ℕ) (present size : ℕ) → start ≡ bytes_at file 0 (length {A = ℕ} (take present (replicate 64 0))) → present ≡ min size 64 → size ≡ length file → format_of start ≡ format_of file
 start_read start file present size read asked long =
     let count : length {A = ℕ} (take present (replicate 64 0)) ≡ min 64 (length file) = length-take present (replicate {A = ℕ} 64 0) ∙ omega arith in
-    ap format_of (read ∙ ap (part_of file 0) count ∙ take_min 64 file) ∙ start_format file
+    ap format_of (read ∙ ap (bytes_at file 0) count ∙ take_min 64 file) ∙ start_format file

@@ -1,8 +1,18 @@
 -- Formats: the formats of files, by the magic numbers that they begin with. System V ABI, "ELF Identification"; LiME, "lime.h";
 -- AVML, "image.rs"; makedumpfile, "makedumpfile.h", "diskdump_mod.h"; VMware's states as crash reads them, "vmware_vmss.h"; VirtualBox,
 -- "SSM.cpp"; QEMU, "savevm.h"; libvirt, "qemu_saveimage.h"; Windows' hibernation files as Volatility reads them; RFC 1952, RFC 8878.
-use Rattle.std.specs.Prelude.{ℕ, Bool, true, false, List, [], ◌∷◌, ◌++◌, codes, drop, nat_eq, option_map, unwrap_or}
+pub mod Elf
+pub mod Lime
+use Rattle.std.specs.Prelude.{ℕ, Bool, true, false, List, [], ◌∷◌, ◌++◌, codes, drop, nat_eq, length, option_map, unwrap_or, Result, Err}
 use Rattle.std.specs.List.{find, starts_with}
+use Rattle.x86_64_dump.specs.Formats.Elf.{elf_segments, header_of}
+use Rattle.x86_64_dump.specs.Formats.Lime.{lime_segments}
+use Rattle.x86_64_dump.specs.Placement.{raw_segments}
+use Rattle.x86_64_dump.specs.declared.placement.Placement.{Placement}
+use Rattle.x86_64_dump.specs.declared.placement.Placement.TheVariants.{Unstated}
+use Rattle.x86_64_dump.specs.declared.segment.Segment.{Segment}
+use Rattle.x86_64_dump.specs.declared.error.Fault.{Fault}
+use Rattle.x86_64_dump.specs.declared.error.Fault.TheVariants as faults
 use Rattle.x86_64_dump.specs.declared.formats.Format.{Format}
 use Rattle.x86_64_dump.specs.declared.formats.Format.TheVariants as formats
 use Rattle.x86_64_dump.specs.declared.formats.UnreadFormat.{UnreadFormat}
@@ -67,3 +77,18 @@ format_of file = unwrap_or (option_map (λ row. row.format) (find (has_magic fil
 abbrev pub is_raw : Format → Bool
 is_raw formats.Raw = true
 is_raw format = false
+
+-- The name of a format that is read, or the text for one that isn't.
+abbrev pub format_name : Format → List ℕ
+format_name formats.Raw = codes "raw"
+format_name formats.Elf = codes "ELF core"
+format_name formats.Lime = codes "LiME"
+format_name (formats.Unread format) = codes "none that is read"
+
+-- The segments of a file of a format, or why it isn't a dump. Only a raw file may have a placement.
+abbrev pub segments_of : Format → (file : List ℕ) → Placement → Result (List Segment) Fault
+segments_of formats.Raw file placement = raw_segments (length file) placement
+segments_of formats.Elf file Unstated = elf_segments file (header_of file)
+segments_of formats.Lime file Unstated = lime_segments file
+segments_of (formats.Unread format) file placement = Err (faults.Unread format)
+segments_of format file placement = Err faults.PlacementGiven

@@ -6,7 +6,7 @@ use Rattle.std.specs.Option.{option_map_or}
 use Rattle.x86_64_dump.specs.Dump.{Contents}
 use Rattle.x86_64_dump.specs.Notes.{fitting}
 use Rattle.x86_64_dump.specs.Segments.{is_memory}
-use Rattle.x86_64_dump.specs.Source.{part_of}
+use Rattle.x86_64_dump.specs.Source.{bytes_at}
 use Rattle.x86_64_dump.specs.VmCoreInfo.{kernel_of}
 use Rattle.x86_64_dump.specs.declared.kernel_text.KernelText.{KernelText}
 use Rattle.x86_64_dump.specs.declared.segment.Segment.{Segment}
@@ -49,7 +49,7 @@ page_texts offset page = text_if (offset + (length page - length (text_in_page p
 -- The texts in the first `pages` pages of some bytes, each of which describes a kernel. The bytes are those of the file from an
 -- offset on.
 abbrev pub texts_in : (pages : ℕ) → (offset : ℕ) → (bytes : List ℕ) → List KernelText
-texts_in pages offset bytes = flat_map (λ page. page_texts (offset + 4096 * page) (part_of bytes (4096 * page) 4096)) (range_with_len 0 pages)
+texts_in pages offset bytes = flat_map (λ page. page_texts (offset + 4096 * page) (bytes_at bytes (4096 * page) 4096)) (range_with_len 0 pages)
 
 -- The number of bytes of memory that a segment has in a file of this length.
 abbrev pub memory_size : (file_length : ℕ) → Segment → ℕ

@@ -1,7 +1,6 @@
 pub mod Numbers
 pub mod Dump
 pub mod Formats
-pub mod Lime
 pub mod Placement
 pub mod Opening
 pub mod Opened
@@ -11,6 +10,7 @@ pub mod KernelTexts
 pub mod FaultTexts
 pub mod Segments
 pub mod Source
+pub mod Steps
 pub mod Reached
 pub mod Tables
 pub mod Loaded

@@ -7,7 +7,7 @@ use Rattle.std.specs.Str.{bytes_eq}
 use Rattle.x86_64_dump.specs.Numbers.{u32_at, u64_at}
 use Rattle.x86_64_dump.specs.Dump.{Contents}
 use Rattle.x86_64_dump.specs.declared.segment.Segment.{Segment}
-use Rattle.x86_64_dump.specs.Source.{part_of}
+use Rattle.x86_64_dump.specs.Source.{bytes_at}
 use Rattle.x86_64_dump.specs.declared.note.Note.{Note}
 use Rattle.x86_64_dump.specs.declared.note.NoteKind.{NoteKind}
 use Rattle.x86_64_dump.specs.declared.note.NoteKind.TheVariants.{Qemu, VmCoreInfo, VirtualBox, Other}
@@ -36,7 +36,7 @@ is_kind _ _ = false
 
 -- The kind of the note at an offset of the file, by its name. The longest name of a known kind has eleven bytes.
 unfoldable pub kind_at : (file : List ℕ) → (at : ℕ) → NoteKind
-kind_at file at = if nat_lt 11 (u32_at file at) then Other else kind_named (part_of file (at + 12) (u32_at file at))
+kind_at file at = if nat_lt 11 (u32_at file at) then Other else kind_named (bytes_at file (at + 12) (u32_at file at))
 
 -- The note at an offset of the file, whatever its bytes are.
 unfoldable pub note_at : (file : List ℕ) → (at : ℕ) → Note

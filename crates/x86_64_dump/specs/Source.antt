@@ -2,5 +2,5 @@
 use Rattle.std.specs.Prelude.{ℕ, List, take, drop}
 
 -- The bytes of a part of a file: `count` bytes from an offset on, or fewer if the file ends before.
-abbrev pub part_of : (file : List ℕ) → (offset count : ℕ) → List ℕ
-part_of file offset count = take count (drop offset file)
+abbrev pub bytes_at : (file : List ℕ) → (offset count : ℕ) → List ℕ
+bytes_at file offset count = take count (drop offset file)

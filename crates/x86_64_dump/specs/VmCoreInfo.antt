@@ -11,7 +11,8 @@ use Rattle.x86_64_addr.specs.declared.level_count.Levels.TheVariants.{Four, Five
 use Rattle.std.specs.Result.{result_map_both}
 use Rattle.x86_64_dump.specs.Dump.{Contents}
 use Rattle.x86_64_dump.specs.Notes.{notes_of}
-use Rattle.x86_64_dump.specs.Source.{part_of}
+use Rattle.x86_64_dump.specs.Source.{bytes_at}
+use Rattle.x86_64_dump.specs.Steps.{and_then}
 use Rattle.x86_64_dump.specs.declared.error.Fault.{Fault}
 use Rattle.x86_64_dump.specs.declared.error.Fault.TheVariants as faults
 use Rattle.x86_64_dump.specs.declared.note.NoteKind.TheVariants.{VmCoreInfo}
@@ -27,7 +28,7 @@ use Rattle.x86_64_dump.specs.declared.vmcoreinfo.KernelFault.TheVariants.{Missin
 
 -- A note's descriptor, or its first 65536 bytes if it is longer.
 abbrev pub descriptor_of : (file : List ℕ) → Note → List ℕ
-descriptor_of file note = part_of file note.offset (min note.size 0x1_0000)
+descriptor_of file note = bytes_at file note.offset (min note.size 0x1_0000)
 
 -- The text of a note: its descriptor, cut after 65536 bytes. If it isn't cut, a line feed follows, since the last line may lack
 -- its own.
@@ -87,11 +88,6 @@ word_of value = if has_prefix value (codes "0x") then number_in_radix 16 (drop 2
 abbrev pub value_in : (text key : List ℕ) → Option ℕ
 value_in text key = option_and_then word_of (value_of text key)
 
--- The result of the next step on a value, or the fault if there is one.
-abbrev pub and_then : {A B : Type 0} → Result A KernelFault → (A → Result B KernelFault) → Result B KernelFault
-and_then (Ok a) next = next a
-and_then (Err fault) next = Err fault
-
 -- The value of a key as `parse` reads it, None if no line has the key, or a fault if `parse` can't read it.
 abbrev pub parsed : {A : Type 0} → (parse : List ℕ → Option A) → Key → (value : Option (List ℕ)) → Result (Option A) KernelFault
 parsed parse key None = Ok None
@@ -99,12 +95,12 @@ parsed parse key (Some value) = option_map_or (λ a. Ok (Some a)) (parse value) 
 
 -- The number in digits of a radix that is the value of a key, None if no line has the key, or a fault if its value is no such
 -- number.
-abbrev pub number_in : (text : List ℕ) → (radix : ℕ) → Key → Result (Option ℕ) KernelFault
-number_in text radix key = parsed (number_in_radix radix) key (value_of text (key_bytes key))
+abbrev pub number_for_key : (text : List ℕ) → (radix : ℕ) → Key → Result (Option ℕ) KernelFault
+number_for_key text radix key = parsed (number_in_radix radix) key (value_of text (key_bytes key))
 
 -- The shift that is the value of a key, None if no line has the key, or a fault if its value is no shift.
-abbrev pub shift_in : (text : List ℕ) → Key → Result (Option Shift) KernelFault
-shift_in text key = parsed shift_of key (value_of text (key_bytes key))
+abbrev pub shift_for_key : (text : List ℕ) → Key → Result (Option Shift) KernelFault
+shift_for_key text key = parsed shift_of key (value_of text (key_bytes key))
 
 -- The address, moved up or down by a number, or None if it would be negative.
 abbrev pub moved : (address : ℕ) → Shift → Option ℕ
@@ -125,12 +121,12 @@ levels_by five = if five == 1 then Five else Four
 
 -- The root, the levels and the encryption mask that a text describes, or why it doesn't describe them.
 unfoldable pub kernel_of : (text : List ℕ) → Result Kernel KernelFault
-kernel_of text = and_then (number_in text 16 SwapperPgDir) (λ symbol.
+kernel_of text = and_then (number_for_key text 16 SwapperPgDir) (λ symbol.
     and_then (ok_or symbol (Missing SwapperPgDir)) (λ symbol.
-    and_then (shift_in text PhysBase) (λ shift.
+    and_then (shift_for_key text PhysBase) (λ shift.
     and_then (ok_or shift (Missing PhysBase)) (λ shift.
-    and_then (number_in text 10 FiveLevels) (λ five.
-    and_then (number_in text 10 SmeMask) (λ mask.
+    and_then (number_for_key text 10 FiveLevels) (λ five.
+    and_then (number_for_key text 10 SmeMask) (λ mask.
     and_then (ok_or (physical symbol shift) NoFrame) (λ root.
     Ok (record { root = root; levels = levels_by (unwrap_or five 0); encryption_mask = unwrap_or mask 0 }))))))))
 
@@ -151,11 +147,11 @@ noted_kernel dump = kernel_by dump.file (slice_get (notes_of VmCoreInfo dump) 0)
 
 -- The text of at most 4096 bytes at an offset of the file, with the kernel that it describes, or why it describes none.
 abbrev pub text_at : (file : List ℕ) → (offset : ℕ) → Result KernelText Fault
-text_at file offset = result_map_both (λ kernel. record { offset = offset; kernel = kernel }) faults.VmCoreInfo (kernel_of (part_of file offset 4096))
+text_at file offset = result_map_both (λ kernel. record { offset = offset; kernel = kernel }) faults.VmCoreInfo (kernel_of (bytes_at file offset 4096))
 
 -- The bytes of the first text in memory, at most 4096, or without one the text of the first of the notes VMCOREINFO.
 abbrev pub text_or : Contents → (first : Option KernelText) → Option (List ℕ)
-text_or dump (Some text) = Some (part_of dump.file text.offset 4096)
+text_or dump (Some text) = Some (bytes_at dump.file text.offset 4096)
 text_or dump None = noted_text dump
 
 -- The text of VMCOREINFO in a dump: the first of those in memory, or if there are none that of the first of the notes.

@@ -7,13 +7,12 @@ ghost use Rattle.x86_64_dump.specs.private.FileParts.{IsOf, has_frame_at};
 
 use crate::error::{DumpError, Fault};
 use crate::file_part::FilePart;
-use crate::formats::{Format, read_format};
+use crate::formats::{Format, read_format, read_segments};
 use crate::frame::{is_cut_off, set_words, words_in};
 use crate::kernel_text::{KernelText, agreed_text};
 use crate::memory_search::read_texts;
 use crate::note::{Note, NoteKind};
 use crate::notes::{read_descriptor, read_notes, read_register, read_text};
-use crate::opening::read_segments;
 use crate::placement::Placement;
 use crate::search::{Stretch, offset_at, sorted_stretches};
 use crate::segment::Segment;
@@ -53,7 +52,7 @@ impl<S: ByteSource> Dump<S> {
     ghost use Rattle.x86_64_dump.specs.declared.error.DumpError.TheVariants as errors;
     ghost use Rattle.x86_64_dump.specs.KernelTexts.{kernel_texts};
     ghost use Rattle.x86_64_dump.specs.VmCoreInfo.{agreed_text, decrypted, kernel_in, noted_kernel, noted_text, text_at, vmcoreinfo_of};
-    ghost use Rattle.x86_64_dump.specs.Source.{part_of};
+    ghost use Rattle.x86_64_dump.specs.Source.{bytes_at};
 
     /// Opens a dump and reads which parts of the file are memory.
     ///
@@ -372,7 +371,7 @@ impl<S: ByteSource> Dump<S> {
     /// Reads 4096 bytes from an offset of the file on, as far as the file has them.
     fn page_text(&self, alloc: Global, offset: u64) -> Result<Vec<u8>, DumpError>
         ensures { S.IsKnown → OpensAs S.may_fail (λ text. text.items) result
-            (Ok (part_of (opened S.bytes self.now).file offset 4096)) }
+            (Ok (bytes_at (opened S.bytes self.now).file offset 4096)) }
     {
         let note = Note {
             kind: NoteKind::VmCoreInfo,

@@ -1,6 +1,6 @@
 //! Parts of files, read at once.
 ghost use Rattle.std.specs.Prelude.{◌≡◌, ◌+◌, ◌-◌, ◌*◌, ◌≤◌, ℕ, List, [], length, true, IfErr, OnOk};
-ghost use Rattle.x86_64_dump.specs.Source.{part_of};
+ghost use Rattle.x86_64_dump.specs.Source.{bytes_at};
 ghost use Rattle.x86_64_dump.specs.private.FileParts.{IsOf, has_frame_at};
 
 use crate::source::ByteSource;
@@ -82,8 +82,8 @@ impl FilePart {
     pub fn frame(&self, offset: u64) -> &[u8]
         requires { has_frame_at self.now offset ≡ true }
         ensures length { length result.now ≡ 4096 }
-        ensures bytes { result.now ≡ part_of self.now.bytes (offset - self.now.start) 4096 }
-        ensures file { (file : List ℕ) → IsOf file self.now → result.now ≡ part_of file offset 4096 }
+        ensures bytes { result.now ≡ bytes_at self.now.bytes (offset - self.now.start) 4096 }
+        ensures file { (file : List ℕ) → IsOf file self.now → result.now ≡ bytes_at file offset 4096 }
     {
         let at = (offset - self.start) as usize;
         &self.bytes[at..at + FRAME_SIZE]

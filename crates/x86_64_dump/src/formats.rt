@@ -1,10 +1,20 @@
 //! The formats of files, known by the magic numbers that they begin with.
 ghost use Rattle.std.specs.Prelude.{◌≡◌, true, nat_eq, drop, IfOk, IfErr};
 ghost use Rattle.std.specs.List.{starts_with};
-ghost use Rattle.x86_64_dump.specs.Formats.{format_of};
+ghost use Rattle.x86_64_dump.specs.Formats.{format_name, format_of, segments_of};
+ghost use Rattle.x86_64_dump.specs.Opening.{OpensAs};
 ghost use Rattle.x86_64_dump.specs.private.Magics.{first_format};
 
+mod elf;
+mod lime;
+
+use crate::error::{DumpError, Fault};
+use crate::formats::elf::read_elf;
+use crate::formats::lime::read_lime;
+use crate::placement::{Placement, raw_segments};
+use crate::segment::Segment;
 use crate::source::ByteSource;
+use std::alloc::Global;
 use std::fmt::{Display, Formatter, Result as FmtResult, Write};
 use std::io;
 
@@ -52,6 +62,20 @@ pub enum UnreadFormat {
     Bzip2,
     /// A zip archive.
     Zip,
+}
+
+impl Format {
+    /// Returns its name if it is read, or a text that says that it isn't.
+    pub fn name(self) -> &'static str
+        ensures { result.now ≡ format_name self }
+    {
+        match self {
+            Format::Raw => "raw",
+            Format::Elf => "ELF core",
+            Format::Lime => "LiME",
+            Format::Unread(_) => "none that is read",
+        }
+    }
 }
 
 /// A magic number: the offset of its first byte in the file, its bytes, and the format of files that have it.
@@ -166,6 +190,26 @@ pub fn read_format<S: ByteSource>(source: &S) -> io::Result<Format>
     let start = &mut front[..present];
     source.read_exact_at(start, 0)?;
     Ok(format_of(start))
+}
+
+/// Reads the segments of a file of a format, of which a raw one is placed as stated.
+#[tactic(auto, using(crate::proofs::Openings::without_reads))]
+pub fn read_segments<S: ByteSource>(
+    alloc: Global,
+    source: &S,
+    format: Format,
+    placement: &Placement,
+) -> Result<Vec<Segment>, DumpError>
+    ensures { S.IsKnown →
+        OpensAs S.may_fail (λ v. v.items) result (segments_of format (S.bytes source.now) placement.now) }
+{
+    match (format, placement) {
+        (Format::Raw, _) => raw_segments(alloc, source.len(), placement),
+        (Format::Elf, Placement::Unstated) => read_elf(alloc, source),
+        (Format::Lime, Placement::Unstated) => read_lime(alloc, source),
+        (Format::Unread(format), _) => Err(DumpError::Fault(Fault::Unread(format))),
+        (_, _) => Err(DumpError::Fault(Fault::PlacementGiven)),
+    }
 }
 
 impl Display for UnreadFormat {

@@ -2,9 +2,9 @@
 ghost use Rattle.std.specs.Prelude.{◌≡◌, length};
 ghost use Rattle.x86_64_dump.specs.Dump.{words_at, is_short};
 
-use crate::elf::ends_after;
 use crate::numbers::read_u64;
 use crate::segment::Segment;
+use crate::source::ends_after;
 use x86_64_tables::page_table::PageTable;
 
 /// Returns true if a file of this length is shorter than its segments say.

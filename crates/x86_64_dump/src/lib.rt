@@ -2,19 +2,16 @@
 #![tactic(auto)]
 
 mod dump;
-mod elf;
 mod error;
 mod file_part;
 mod formats;
 mod frame;
 mod header;
 mod kernel_text;
-mod lime;
 mod memory_search;
 mod note;
 mod notes;
 mod numbers;
-mod opening;
 mod placement;
 mod search;
 mod segment;

@@ -7,12 +7,11 @@ ghost use Rattle.x86_64_dump.specs.Notes.{padded, kind_at, note_at, note_cut, no
 ghost use Rattle.x86_64_dump.specs.VmCoreInfo.{descriptor_of, text_of};
 ghost use Rattle.x86_64_dump.specs.private.NotesLeft.{is_whole, if_kept, kept_notes, notes_within};
 
-use crate::elf::ends_after;
 use crate::error::{DumpError, Fault};
 use crate::note::{Note, NoteKind};
 use crate::numbers::{read_u32, read_u64};
 use crate::segment::Segment;
-use crate::source::ByteSource;
+use crate::source::{ByteSource, ends_after};
 use std::alloc::{AllocError, Global};
 use std::io;
 

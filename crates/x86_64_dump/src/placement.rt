@@ -3,9 +3,9 @@ ghost use Rattle.std.specs.Prelude.{◌≡◌, false, Ok, IfOk, map};
 ghost use Rattle.x86_64_dump.specs.Placement.{first_fault, range_fault, range_segment, raw_segments, whole_file};
 ghost use Rattle.x86_64_dump.specs.Opening.{OpensAs};
 
-use crate::elf::ends_after;
 use crate::error::{DumpError, Fault};
 use crate::segment::Segment;
+use crate::source::ends_after;
 use std::alloc::{AllocError, Global};
 
 /// Where the bytes of a raw file lie in physical memory.

@@ -1,6 +1,6 @@
 //! Sources of bytes, read at offsets.
-ghost use Rattle.std.specs.Prelude.{◌≡◌, ◌+◌, ◌≤◌, Bool, true, false, ℕ, List, length, IfErr, OnOk, ⊤, [], refl};
-ghost use Rattle.x86_64_dump.specs.Source.{part_of};
+ghost use Rattle.std.specs.Prelude.{◌≡◌, ◌+◌, ◌≤◌, Bool, true, false, ℕ, List, length, nat_lt, IfErr, OnOk, ⊤, [], refl};
+ghost use Rattle.x86_64_dump.specs.Source.{bytes_at};
 
 use std::fs::File;
 use std::io::{self, ErrorKind, Seek, SeekFrom};
@@ -36,7 +36,7 @@ pub trait ByteSource: Drop {
     /// then unspecified.
     fn read_exact_at(&self, buffer: &mut [u8], offset: u64) -> io::Result<()>
         ensures bytes { IsKnown →
-            OnOk result (buffer.new ≡ part_of (bytes self.now) offset (length buffer.old)) }
+            OnOk result (buffer.new ≡ bytes_at (bytes self.now) offset (length buffer.old)) }
         ensures failed { offset + length buffer.old ≤ size self.now → IfErr result (λ _. may_fail ≡ true) };
 
     /// The reported number is the number of known bytes.
@@ -116,5 +116,15 @@ impl ByteSource for FileSource {
 
     fn read_exact_at(&self, buffer: &mut [u8], offset: u64) -> io::Result<()> {
         self.file.read_exact_at(buffer, offset)
+    }
+}
+
+/// Returns true if a part of a file ends after the end of the file.
+pub fn ends_after(offset: u64, size: u64, length: u64) -> bool
+    ensures { result ≡ nat_lt length (offset + size) }
+{
+    match offset.checked_add(size) {
+        Some(end) => length < end,
+        None => true,
     }
 }

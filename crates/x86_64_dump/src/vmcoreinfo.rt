@@ -91,12 +91,12 @@ impl Kernel {
     pub fn of(text: &[u8]) -> Result<Kernel, KernelFault>
         ensures { result ≡ info.kernel_of text.now }
     {
-        let symbol = number_in(text, 16, Key::SwapperPgDir)?.ok_or(KernelFault::Missing(
+        let symbol = number_for_key(text, 16, Key::SwapperPgDir)?.ok_or(KernelFault::Missing(
             Key::SwapperPgDir,
         ))?;
-        let shift = shift_in(text, Key::PhysBase)?.ok_or(KernelFault::Missing(Key::PhysBase))?;
-        let five = number_in(text, 10, Key::FiveLevels)?;
-        let mask = number_in(text, 10, Key::SmeMask)?;
+        let shift = shift_for_key(text, Key::PhysBase)?.ok_or(KernelFault::Missing(Key::PhysBase))?;
+        let five = number_for_key(text, 10, Key::FiveLevels)?;
+        let mask = number_for_key(text, 10, Key::SmeMask)?;
         let root = physical(symbol, shift).ok_or(KernelFault::NoFrame)?;
         Ok(Kernel {
             root,
@@ -116,10 +116,10 @@ impl Kernel {
 }
 
 /// Returns the number that is the value of a key, if a line has the key.
-fn number_in(text: &[u8], radix: u32, key: Key) -> Result<Option<u64>, KernelFault>
+fn number_for_key(text: &[u8], radix: u32, key: Key) -> Result<Option<u64>, KernelFault>
     requires lower_bound { 2 ≤ radix }
     requires upper_bound { radix ≤ 36 }
-    ensures { result ≡ info.number_in text.now radix key }
+    ensures { result ≡ info.number_for_key text.now radix key }
 {
     let Some(value) = value_of(text, key.text().as_bytes()) else {
         return Ok(None);
@@ -131,8 +131,8 @@ fn number_in(text: &[u8], radix: u32, key: Key) -> Result<Option<u64>, KernelFau
 }
 
 /// Returns the number with or without a minus that is the value of a key, if a line has the key.
-fn shift_in(text: &[u8], key: Key) -> Result<Option<Shift>, KernelFault>
-    ensures { result ≡ info.shift_in text.now key }
+fn shift_for_key(text: &[u8], key: Key) -> Result<Option<Shift>, KernelFault>
+    ensures { result ≡ info.shift_for_key text.now key }
 {
     let Some(value) = value_of(text, key.text().as_bytes()) else {
         return Ok(None);

@@ -18,12 +18,12 @@ use Rattle.ptdump_check.specs.declared.reached.search.Visit.{Visit}
 
 -- The virtual address in a mapping that leads to a physical address, taken modulo the size of the address space of L levels of
 -- tables, so that any mapping has one.
-abbrev pub address_in : (L physical : ℕ) → Mapping → ℕ
-address_in L a m = raw L ((m.start + (a - m.frame)) % position_count L)
+abbrev pub address_leading_to : (L physical : ℕ) → Mapping → ℕ
+address_leading_to L a m = raw L ((m.start + (a - m.frame)) % position_count L)
 
 -- For each of some frames, the virtual address in the first mapping that leads to it, or None if none does.
 abbrev pub first_address_of_each : (L : ℕ) → (frames : List ℕ) → List Mapping → List (Option ℕ)
-first_address_of_each L frames ms = map (λ f. option_map (address_in L f) (find (leads_to f) ms)) frames
+first_address_of_each L frames ms = map (λ f. option_map (address_leading_to L f) (find (leads_to f) ms)) frames
 
 -- ---- mappings
 

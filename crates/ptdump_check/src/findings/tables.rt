@@ -1,7 +1,7 @@
 //! The tables in which findings are looked for.
 ghost use Rattle.std.specs.Prelude.{◌≡◌, ◌++◌, IfOk, OnOk, map};
 ghost use Rattle.x86_64_dump.specs.Loaded.{frames_of};
-ghost use Rattle.ptdump_check.specs.Findings.{frames_above, tables_below, tables_by_address};
+ghost use Rattle.ptdump_check.specs.Findings.{frames_above, tables_from_level, tables_by_address};
 
 use crate::findings::entry::Table;
 use std::alloc::{AllocError, Global};
@@ -25,7 +25,7 @@ pub fn tables_in_order(alloc: Global, frames: TablesByLevel<'_>) -> Result<Vec<T
 
 /// Returns the tables by level.
 fn tables_by_level(alloc: Global, frames: TablesByLevel<'_>) -> Result<Vec<Table>, AllocError>
-    ensures { IfOk result (λ tables. tables.items ≡ tables_below 1 (frames_of frames.now)) }
+    ensures { IfOk result (λ tables. tables.items ≡ tables_from_level 1 (frames_of frames.now)) }
 {
     let mut tables = Vec::new(alloc);
     let mut level = 0;

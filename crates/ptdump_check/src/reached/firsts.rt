@@ -31,7 +31,7 @@ pub fn note<L: LevelCount>(
         if !leads_to(mapping, frames[i]) {
             return;
         }
-        firsts[i] = firsts[i].or(Some(address_in(mapping, frames[i])));
+        firsts[i] = firsts[i].or(Some(address_leading_to(mapping, frames[i])));
     }
 }
 
@@ -45,8 +45,8 @@ fn leads_to<L: LevelCount>(mapping: &MappingIn<L>, frame: PhysFrame<Size4KiB>) -
 }
 
 /// Returns the virtual address in a mapping that leads to a frame, whatever the mapping.
-fn address_in<L: LevelCount>(mapping: &MappingIn<L>, frame: PhysFrame<Size4KiB>) -> u64
-    ensures { result ≡ reaching.address_in L.LEVELS frame mapping.now }
+fn address_leading_to<L: LevelCount>(mapping: &MappingIn<L>, frame: PhysFrame<Size4KiB>) -> u64
+    ensures { result ≡ reaching.address_leading_to L.LEVELS frame mapping.now }
 {
     let start = mapping.frame.start_address().as_u64();
     let offset = frame.start_address().as_u64().saturating_sub(start);

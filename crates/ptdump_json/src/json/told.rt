@@ -24,7 +24,7 @@ impl ToJson for DumpFormat {
     ghost no_float = { λ format. refl };
 
     fn to_json(&self, alloc: Global) -> Result<Value, AllocError> {
-        let object = Object::new(alloc).put_text("format", self.name())?;
+        let object = Object::new(alloc).put_text("format", self.0.name())?;
         Ok(object.finish())
     }
 }

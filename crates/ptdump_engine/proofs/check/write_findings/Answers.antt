@@ -4,7 +4,7 @@ use Rattle.x86_64_dump.specs.Loaded.{frames_of}
 use Rattle.x86_64_model.specs.Memory.{Words, identity_places, words_of}
 use Rattle.x86_64_model.specs.Mappings.{mappings_of}
 use Rattle.x86_64_model.specs.Regions.{regions_of}
-use Rattle.ptdump_check.specs.Findings.{findings_by, frames_above, names_in, names_in_order, processor_of, table_findings, tables_below, tables_by_address}
+use Rattle.ptdump_check.specs.Findings.{findings_by, frames_above, names_in, names_in_order, processor_of, table_findings, tables_from_level, tables_by_address}
 use Rattle.ptdump_check.specs.ReachedTables.{all_reached}
 use Rattle.ptdump_check.specs.Loaded.{HasAllTables, words_loaded}
 use Rattle.ptdump_check.specs.WritableTables.{all_writable}
@@ -59,7 +59,7 @@ all_lines checking L loaded subject all selection processor memory root tables n
 
 ascend_tables : (levels : List (List ℕ)) → Ascend (λ (table : Table). table.frame) (tables_by_address levels)
 unfolding tables_by_address
-ascend_tables levels = ascend_in_order (λ table. table.frame) (tables_below 1 levels)
+ascend_tables levels = ascend_in_order (λ table. table.frame) (tables_from_level 1 levels)
 
 ascend_names : (T : Words) (tables : List Table) → Ascend (λ (name : Name). name.frame) (names_in_order T tables)
 unfolding names_in_order

@@ -6,7 +6,7 @@ use Rattle.ptdump_engine.specs.Failure.{failure_of}
 use Rattle.ptdump_engine.specs.NotedControls.{command_by, registers_for}
 use Rattle.ptdump_engine.specs.Resolved.{resolved}
 use Rattle.ptdump_engine.specs.NotedLevels.{noted_levels_text}
-use Rattle.ptdump_engine.specs.Program.{EndsByTotals, DumpedMachine, StderrIs, NotesAs, NotesOnTables, Reports, ReportsAll, RunsAs, ToldAs, ToldOfTablesOf, is_image, is_info, is_of_processors, level_count, opening_text, source_text}
+use Rattle.ptdump_engine.specs.Program.{EndsByTotals, DumpedMachine, StderrIs, NotesAs, NotesOnTables, ReportsOnWords, ReportsAll, RunsAs, ToldAs, ToldOfTablesOf, is_image, is_info, is_of_processors, level_count, opening_text, source_text}
 use Rattle.ptdump_engine.specs.Processors.{firsts_of}
 use Rattle.ptdump_engine.specs.Steps.{InTurn, of_dump}
 use Rattle.std.specs.Io.KnownBytes.{Appends}
@@ -178,7 +178,7 @@ returns-clause-run g c = λ known.
     (subst (λ all. RunsAs false all fails may request file before after c.report_from.result) (sym one)
     (runs_by fails may request file before after (record { dump = dump; start = start }) c.report_from.result
     (opens request file dump start (c.in_ok-dump.ensures known) (c.in_ok-start.ensures.start known))
-    (subst (λ asked. IfOk c.report_from.result (Reports asked (level_count start.levels) (words_of_dump dump) start.root before after)) is (c.report_from.ensures.written known))
+    (subst (λ asked. IfOk c.report_from.result (ReportsOnWords asked (level_count start.levels) (words_of_dump dump) start.root before after)) is (c.report_from.ensures.written known))
     c.report_from.ensures.errors))
 
 pub returns-clause-told : goal.returns-clause-told

@@ -4,7 +4,7 @@ use Rattle.std.proofs.lemmas.List.{drop_all, drop_more}
 use Rattle.std.specs.List.{filter_map}
 use Rattle.x86_64_dump.specs.Loaded.{frames_of, loaded_words}
 use Rattle.x86_64_model.specs.Memory.{Words, identity_places, words_of}
-use Rattle.ptdump_check.specs.Findings.{entries_in, flaw_in, flawed_entries, tables_below}
+use Rattle.ptdump_check.specs.Findings.{entries_in, flaw_in, flawed_entries, tables_from_level}
 use Rattle.ptdump_check.specs.declared.findings.entry.Table.{Table}
 use Rattle.ptdump_check.specs.declared.findings.finding.EntryFlaw.{EntryFlaw}
 use Rattle.ptdump_check.specs.declared.findings.finding.Finding.{Finding}
@@ -14,15 +14,15 @@ use Rattle.ptdump_engine.proofs.reserved.write_flawed_by_level.Goals as goal
 
 -- the findings of one more level
 level_more : {A : Type 0} (flaw : EntryFlaw) (T : Words) (done : List Finding) (levels : List (Vec ℕ A)) (level : Vec ℕ A) (i n : ℕ) → i < length levels → level ≡ get_or levels i level
-    → (done ++ flawed_entries flaw T (map (λ f. record { frame = f; level = n + 1 }) level.items)) ++ flawed_entries flaw T (tables_below (n + 1 + 1) (frames_of (drop (i + 1) levels)))
-    ≡ done ++ flawed_entries flaw T (tables_below (n + 1) (frames_of (drop i levels)))
+    → (done ++ flawed_entries flaw T (map (λ f. record { frame = f; level = n + 1 }) level.items)) ++ flawed_entries flaw T (tables_from_level (n + 1 + 1) (frames_of (drop (i + 1) levels)))
+    ≡ done ++ flawed_entries flaw T (tables_from_level (n + 1) (frames_of (drop i levels)))
 level_more flaw T done levels level i n below is =
     let here = map (λ f. record { frame = f; level = n + 1 }) level.items in
-    let rest = tables_below (n + 1 + 1) (frames_of (drop (i + 1) levels)) in
+    let rest = tables_from_level (n + 1 + 1) (frames_of (drop (i + 1) levels)) in
     append_assoc done (flawed_entries flaw T here) (flawed_entries flaw T rest)
     ∙ ap (λ fs. done ++ fs) (sym (flat_map-append (λ t. filter_map (flaw_in flaw) (entries_in T t)) here rest))
-    ∙ ap (λ v. done ++ flawed_entries flaw T (tables_below (n + 1) (frames_of (v ∷ drop (i + 1) levels)))) is
-    ∙ ap (λ vs. done ++ flawed_entries flaw T (tables_below (n + 1) (frames_of vs))) (sym (drop_more levels i level below))
+    ∙ ap (λ v. done ++ flawed_entries flaw T (tables_from_level (n + 1) (frames_of (v ∷ drop (i + 1) levels)))) is
+    ∙ ap (λ vs. done ++ flawed_entries flaw T (tables_from_level (n + 1) (frames_of vs))) (sym (drop_more levels i level below))
 
 pub loop-frames-preserved : goal.loop-frames-preserved
 loop-frames-preserved g c =
@@ -51,8 +51,8 @@ returns g c =
     let flaw = c.args.flaw in
     let levels = c.frames-levels.result.now in
     let (same, (done, lines, all)) = c.loop-frames.invariant in
-    let none : flawed_entries flaw T (tables_below (c.loop-frames.level + 1) (frames_of (drop c.loop-frames.frames-index levels))) ≡ [] =
-    ap (λ vs. flawed_entries flaw T (tables_below (c.loop-frames.level + 1) (frames_of vs))) (drop_all c.loop-frames.frames-index levels c.loop-frames-test.false) in
-    let whole : done ≡ flawed_entries flaw T (tables_below 1 (frames_of c.args.tables.now.frames.items)) =
-    sym (append-nil done) ∙ ap (λ fs. done ++ fs) (sym none) ∙ all ∙ ap (λ vs. flawed_entries flaw T (tables_below 1 (frames_of vs))) c.frames-levels.ensures in
+    let none : flawed_entries flaw T (tables_from_level (c.loop-frames.level + 1) (frames_of (drop c.loop-frames.frames-index levels))) ≡ [] =
+    ap (λ vs. flawed_entries flaw T (tables_from_level (c.loop-frames.level + 1) (frames_of vs))) (drop_all c.loop-frames.frames-index levels c.loop-frames-test.false) in
+    let whole : done ≡ flawed_entries flaw T (tables_from_level 1 (frames_of c.args.tables.now.frames.items)) =
+    sym (append-nil done) ∙ ap (λ fs. done ++ fs) (sym none) ∙ all ∙ ap (λ vs. flawed_entries flaw T (tables_from_level 1 (frames_of vs))) c.frames-levels.ensures in
     subst (λ fs. g.O.LineOutput.Lines c.args.output.now c.loop-frames.output (map said_of fs)) whole lines

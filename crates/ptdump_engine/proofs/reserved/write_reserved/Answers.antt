@@ -1,6 +1,6 @@
 use Rattle.std.proofs.Common.{◌≡◌, ◌∙◌, ◌-◌, ◌^◌, if◌then◌else◌, ℕ, [], length, min, sym, ap, subst}
 use Rattle.x86_64_dump.specs.Loaded.{frames_in}
-use Rattle.ptdump_check.specs.Findings.{tables_below}
+use Rattle.ptdump_check.specs.Findings.{tables_from_level}
 use Rattle.ptdump_check.specs.Loaded.{HasAllTables, words_loaded}
 use Rattle.ptdump_check.specs.declared.loaded.Loaded.{Loaded}
 use Rattle.ptdump_engine.specs.Output.{Puts}
@@ -11,9 +11,9 @@ use Rattle.ptdump_engine.proofs.reserved.write_reserved.Goals as goal
 
 -- the tables that were read are all
 counted : {X : Type 0} (L : ℕ) (loaded : Loaded X) → HasAllTables L loaded
-    → min (length (reserved_entries (words_loaded loaded) (tables_below 1 (frames_in loaded.tables.now)))) (2 ^ 64 - 1) ≡ reserved_count L (words_loaded loaded) loaded.root
+    → min (length (reserved_entries (words_loaded loaded) (tables_from_level 1 (frames_in loaded.tables.now)))) (2 ^ 64 - 1) ≡ reserved_count L (words_loaded loaded) loaded.root
 unfolding reserved_count
-counted L loaded all = ap (λ levels. min (length (reserved_entries (words_loaded loaded) (tables_below 1 levels))) (2 ^ 64 - 1)) all
+counted L loaded all = ap (λ levels. min (length (reserved_entries (words_loaded loaded) (tables_from_level 1 levels))) (2 ^ 64 - 1)) all
 
 pub returns-then-lists_mappings : goal.returns-then-lists_mappings
 returns-then-lists_mappings g c = λ all.

@@ -1,7 +1,7 @@
 use Rattle.std.proofs.Common.{◌≡◌, ◌∙◌, ◌+◌, ℕ, ap, length, replicate, take}
 use Rattle.std.proofs.lemmas.List.{length-take}
 use Rattle.std.proofs.Math.Nat.{min-eq_left}
-use Rattle.x86_64_dump.specs.Source.{part_of}
+use Rattle.x86_64_dump.specs.Source.{bytes_at}
 use Rattle.x86_64_dump.proofs.NotesRead.{long_name, name_read}
 use Rattle.x86_64_dump.proofs.notes.read_kind.Goals as goal
 
@@ -16,5 +16,5 @@ returns-clause-value g c known read =
     let name = c.read_exact_at.new.buffer in
     let short = c.if-name_size-gt-LONGEST_NAME.false in
     let counted : length {A = ℕ} (take size (replicate 11 0)) ≡ size = length-take size (replicate {A = ℕ} 11 0) ∙ min-eq_left {n = size} {m = 11} short in
-    let given : name ≡ part_of file (at + 12) (length {A = ℕ} (take size (replicate 11 0))) = c.in_ok-read_exact_at.ensures.bytes known in
-    c.named.ensures ∙ name_read file name at size read short (given ∙ ap (part_of file (at + 12)) counted)
+    let given : name ≡ bytes_at file (at + 12) (length {A = ℕ} (take size (replicate 11 0))) = c.in_ok-read_exact_at.ensures.bytes known in
+    c.named.ensures ∙ name_read file name at size read short (given ∙ ap (bytes_at file (at + 12)) counted)

@@ -1,5 +1,5 @@
 use Rattle.std.proofs.Common.{◌≡◌, arith}
-use Rattle.x86_64_dump.specs.Source.{part_of}
+use Rattle.x86_64_dump.specs.Source.{bytes_at}
 use Rattle.x86_64_dump.proofs.NotesRead.{no_note, too_short, not_whole, whole, note_found, name_size_read, size_read}
 use Rattle.x86_64_dump.proofs.notes.read_note.Goals as goal
 
@@ -12,7 +12,7 @@ pub returns-then-left-padded-clause-value : goal.returns-then-left-padded-clause
 returns-then-left-padded-clause-value g c known =
     let file = g.S.ByteSource.bytes c.args.source.now in
     let at = c.args.at in
-    let read : c.read_exact_at.new.buffer ≡ part_of file at 12 = c.in_ok-read_exact_at.ensures.bytes known in
+    let read : c.read_exact_at.new.buffer ≡ bytes_at file at 12 = c.in_ok-read_exact_at.ensures.bytes known in
     let named = name_size_read file _ at _ read c.read_u32-name_size.ensures in
     let sized = size_read file _ at _ read c.read_u32-size.ensures in
     no_note file at c.args.left (not_whole file at c.args.left c.read_u32-name_size.result c.read_u32-size.result named sized (omega (arith, c.if-left-padded.true, c.padded.ensures, c.from.ensures)))
@@ -21,7 +21,7 @@ pub returns-clause-value : goal.returns-clause-value
 returns-clause-value g c known =
     let file = g.S.ByteSource.bytes c.args.source.now in
     let at = c.args.at in
-    let read : c.read_exact_at.new.buffer ≡ part_of file at 12 = c.in_ok-read_exact_at.ensures.bytes known in
+    let read : c.read_exact_at.new.buffer ≡ bytes_at file at 12 = c.in_ok-read_exact_at.ensures.bytes known in
     let named = name_size_read file _ at _ read c.read_u32-name_size.ensures in
     let sized = size_read file _ at _ read c.read_u32-size.ensures in
     let all = whole file at c.args.left _ _ named sized (omega (arith, c.if-left-padded.false, c.padded.ensures, c.from.ensures)) in

@@ -1,19 +1,19 @@
 use Rattle.std.proofs.Common.{◌≡◌, ◌∙◌, ◌+◌, ◌<◌, ◌++◌, ℕ, List, Vec, ◌∷◌, map, drop, get_or, length, sym, ap, append_assoc, arith}
 use Rattle.std.proofs.lemmas.List.{drop_more}
 use Rattle.x86_64_dump.specs.Loaded.{frames_of}
-use Rattle.ptdump_check.specs.Findings.{tables_below}
+use Rattle.ptdump_check.specs.Findings.{tables_from_level}
 use Rattle.ptdump_check.specs.declared.findings.entry.Table.{Table}
 use Rattle.ptdump_check.proofs.findings.tables.tables_by_level.Goals as goal
 
 -- the tables of one more level
 level_more : {A : Type 0} (items more : List Table) (levels : List (Vec ℕ A)) (level : Vec ℕ A) (i n : ℕ) → i < length levels → level ≡ get_or levels i level
     → more ≡ items ++ map (λ f. record { frame = f; level = n + 1 }) level.items
-    → more ++ tables_below (n + 1 + 1) (frames_of (drop (i + 1) levels)) ≡ items ++ tables_below (n + 1) (frames_of (drop i levels))
+    → more ++ tables_from_level (n + 1 + 1) (frames_of (drop (i + 1) levels)) ≡ items ++ tables_from_level (n + 1) (frames_of (drop i levels))
 level_more items more levels level i n below is added =
-    ap (λ ts. ts ++ tables_below (n + 1 + 1) (frames_of (drop (i + 1) levels))) added
-    ∙ append_assoc items (map (λ f. record { frame = f; level = n + 1 }) level.items) (tables_below (n + 1 + 1) (frames_of (drop (i + 1) levels)))
-    ∙ ap (λ v. items ++ tables_below (n + 1) (frames_of (v ∷ drop (i + 1) levels))) is
-    ∙ ap (λ vs. items ++ tables_below (n + 1) (frames_of vs)) (sym (drop_more levels i level below))
+    ap (λ ts. ts ++ tables_from_level (n + 1 + 1) (frames_of (drop (i + 1) levels))) added
+    ∙ append_assoc items (map (λ f. record { frame = f; level = n + 1 }) level.items) (tables_from_level (n + 1 + 1) (frames_of (drop (i + 1) levels)))
+    ∙ ap (λ v. items ++ tables_from_level (n + 1) (frames_of (v ∷ drop (i + 1) levels))) is
+    ∙ ap (λ vs. items ++ tables_from_level (n + 1) (frames_of vs)) (sym (drop_more levels i level below))
 
 pub loop-of_level-preserved : goal.loop-of_level-preserved
 loop-of_level-preserved c =

@@ -5,7 +5,7 @@ use Rattle.std.proofs.lemmas.List.{get_or_read}
 use Rattle.std.proofs.lemmas.List.Sorted.{IsPartitionPoint-from_clause, IsPartitionedBy-ltb}
 use Rattle.std.specs.Option.{option_or}
 use Rattle.x86_64_mappings.specs.Wanted.{leads_to}
-use Rattle.ptdump_check.specs.private.Reaching.{address_in}
+use Rattle.ptdump_check.specs.private.Reaching.{address_leading_to}
 use Rattle.ptdump_check.proofs.Noted.{ended_early, ended_last, noted_here, noted_more, min_same, so_many, BeginsAt}
 use Rattle.ptdump_check.proofs.reached.firsts.note.Goals as goal
 
@@ -44,8 +44,8 @@ loop-i-preserved g c =
     let frame : c.index-frames-i.result ≡ get_or frames i 0 = get_or_read frames i c.index-frames-i.result within c.index-frames-i.is 0 in
     let leads : leads_to (get_or frames i 0) m ≡ true = ap (λ f. leads_to f m) (sym frame) ∙ sym c.leads_to.ensures ∙ c.if-not-leads_to.false in
     let again : c.index-frames-i-in-loop-i.result ≡ get_or frames i 0 = get_or_read frames i c.index-frames-i-in-loop-i.result within c.index-frames-i-in-loop-i.is 0 in
-    let address : c.address_in.result ≡ address_in L (get_or frames i 0) m = c.address_in.ensures ∙ ap (λ f. address_in L f m) again in
-    let value : c.or.result ≡ option_or (get_or now i None) (Some c.address_in.result) = search rules in
+    let address : c.address_leading_to.result ≡ address_leading_to L (get_or frames i 0) m = c.address_leading_to.ensures ∙ ap (λ f. address_leading_to L f m) again in
+    let value : c.or.result ≡ option_or (get_or now i None) (Some c.address_leading_to.result) = search rules in
     noted_more L frames m c.partition_point-begin.result i old now c.or.result c.loop-i.invariant c.loop-i.auto.i here
     (value ∙ (λ k. option_or (c.loop-i.invariant.after i (omega arith) k) (Some (address k))) ∙ noted_here L (get_or frames i 0) m (get_or old i None) leads)
 

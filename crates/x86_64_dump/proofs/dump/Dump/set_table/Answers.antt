@@ -1,7 +1,7 @@
 use Rattle.std.proofs.Common.{◌-◌, ◌∙◌, ap}
 use Rattle.x86_64_dump.specs.Dump.{words_at}
 use Rattle.x86_64_dump.specs.Opened.{opened}
-use Rattle.x86_64_dump.specs.Source.{part_of}
+use Rattle.x86_64_dump.specs.Source.{bytes_at}
 use Rattle.x86_64_dump.proofs.Frames.{frame_words, words_shown}
 use Rattle.x86_64_dump.proofs.Parts.{part_shows}
 use Rattle.x86_64_dump.proofs.dump.Dump.set_table.Goals as goal
@@ -18,4 +18,4 @@ returns-clause-words g c =
     let at = c.args.offset - part.start in
     let cleared = c.args.self.now.cleared in
     c.set_words.ensures ∙ ap (λ bytes. words_at cleared bytes 0) c.frame.ensures.bytes
-    ∙ words_shown cleared (part_of part.bytes at 4096) part.bytes at (part_shows part.bytes at 4096)
+    ∙ words_shown cleared (bytes_at part.bytes at 4096) part.bytes at (part_shows part.bytes at 4096)

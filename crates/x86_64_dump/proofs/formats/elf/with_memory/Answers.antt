@@ -1,7 +1,7 @@
 use Rattle.std.proofs.Common.{◌∙◌, ap, cond, sym, Ok, Err}
-use Rattle.x86_64_dump.specs.Opening.{has_memory}
+use Rattle.x86_64_dump.specs.Formats.Elf.{has_memory}
 use Rattle.x86_64_dump.specs.declared.error.Fault.TheVariants as faults
-use Rattle.x86_64_dump.proofs.elf.with_memory.Goals as goal
+use Rattle.x86_64_dump.proofs.formats.elf.with_memory.Goals as goal
 
 pub returns-then-has_memory : goal.returns-then-has_memory
 returns-then-has_memory c =

@@ -1,13 +1,12 @@
 //! LiME files.
 ghost use Rattle.std.specs.Prelude.{◌≡◌, ◌+◌, ◌<◌, ◌^◌, false, length, IfOk};
-ghost use Rattle.x86_64_dump.specs.Lime.{cut_header, lime_segments, range_at, range_behind, range_header_at};
+ghost use Rattle.x86_64_dump.specs.Formats.Lime.{cut_header, lime_segments, range_at, range_behind, range_header_at};
 ghost use Rattle.x86_64_dump.specs.Opening.{OpensAs, GivesAtOnce};
 
-use crate::elf::ends_after;
 use crate::error::{DumpError, Fault};
 use crate::numbers::{read_u32, read_u64};
 use crate::segment::Segment;
-use crate::source::ByteSource;
+use crate::source::{ByteSource, ends_after};
 use std::alloc::Global;
 
 /// The first four bytes of each header, `LIME_MAGIC`.
@@ -87,7 +86,7 @@ fn cut_header(at: u64, length: u64) -> Result<Segment, DumpError>
 }
 
 /// Returns the fields of a header.
-#[tactic(auto, unfolding(crate::specs::Lime::range_header_at))]
+#[tactic(auto, unfolding(crate::specs::Formats::Lime::range_header_at))]
 fn header_in(bytes: &[u8]) -> RangeHeader
     requires { length bytes.now ≡ 32 }
     ensures { result ≡ range_header_at bytes.now 0 }
@@ -101,7 +100,7 @@ fn header_in(bytes: &[u8]) -> RangeHeader
 }
 
 /// Returns the range behind the header at an offset.
-#[tactic(auto, unfolding(crate::specs::Lime::range_behind))]
+#[tactic(auto, unfolding(crate::specs::Formats::Lime::range_behind))]
 fn range_behind(header: &RangeHeader, at: u64) -> Result<Segment, Fault>
     requires { at + 32 < 2 ^ 64 }
     ensures range { result ≡ range_behind at header.now }

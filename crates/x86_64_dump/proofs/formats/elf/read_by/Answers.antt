@@ -1,8 +1,8 @@
 use Rattle.std.proofs.Common.{◌≡◌, ◌∙◌, ◌+◌, ◌*◌, ◌≤◌, ap, sym, None, Ok, arith}
-use Rattle.x86_64_dump.specs.Opening.{elf_segments, with_memory}
+use Rattle.x86_64_dump.specs.Formats.Elf.{elf_segments, with_memory}
 use Rattle.x86_64_dump.specs.Dump.{segments_at}
 use Rattle.x86_64_dump.proofs.Openings.{at_once, elf_refused, elf_table}
-use Rattle.x86_64_dump.proofs.elf.read_by.Goals as goal
+use Rattle.x86_64_dump.proofs.formats.elf.read_by.Goals as goal
 
 pub returns-in-Some : goal.returns-in-Some
 returns-in-Some g c known =

@@ -1,14 +1,15 @@
 //! Headers of ELF core files.
-ghost use Rattle.std.specs.Prelude.{◌≡◌, ◌+◌, ◌*◌, ◌/◌, ◌≤◌, ◌<◌, ◌^◌, ◌++◌, length, nat_lt, false, true, IfOk, IfErr, IfNone, OnOk, Ok};
+ghost use Rattle.std.specs.Prelude.{◌≡◌, ◌+◌, ◌*◌, ◌/◌, ◌≤◌, ◌<◌, ◌^◌, ◌++◌, length, false, true, IfOk, IfErr, IfNone, OnOk, Ok};
 ghost use Rattle.x86_64_dump.specs.Numbers.{u32_at};
 ghost use Rattle.x86_64_dump.specs.Dump.{segment_at, segments_at};
-ghost use Rattle.x86_64_dump.specs.Opening.{header_of, header_fault, table_fault, count_of, elf_segments, has_memory, with_memory, OpensAs, GivesAtOnce};
+ghost use Rattle.x86_64_dump.specs.Formats.Elf.{header_of, header_fault, table_fault, count_of, elf_segments, has_memory, with_memory};
+ghost use Rattle.x86_64_dump.specs.Opening.{OpensAs, GivesAtOnce};
 
 use crate::error::{DumpError, Fault};
 use crate::header::Header;
 use crate::numbers::{read_u16, read_u32, read_u64};
 use crate::segment::Segment;
-use crate::source::ByteSource;
+use crate::source::{ByteSource, ends_after};
 use std::alloc::{AllocError, Global};
 use std::io;
 
@@ -83,18 +84,8 @@ fn has_memory(segments: &[Segment]) -> bool
     segments.iter().any(|segment| segment.is_memory())
 }
 
-/// Returns true if a part of a file ends after the end of the file.
-pub fn ends_after(offset: u64, size: u64, length: u64) -> bool
-    ensures { result ≡ nat_lt length (offset + size) }
-{
-    match offset.checked_add(size) {
-        Some(end) => length < end,
-        None => true,
-    }
-}
-
 /// Returns why an ELF file isn't a core file of x86-64, or `None` if it is.
-#[tactic(auto, unfolding(crate::specs::Opening::header_fault))]
+#[tactic(auto, unfolding(crate::specs::Formats::Elf::header_fault))]
 fn fault_of_header(header: &Header, length: u64) -> Option<Fault>
     ensures fault { result ≡ header_fault length header.now }
     ensures section { IfNone result (header.now.count ≡ 65535 → header.now.sections + 64 ≤ length) }
@@ -132,7 +123,7 @@ fn fault_of_header(header: &Header, length: u64) -> Option<Fault>
 }
 
 /// Returns why the program headers can't be read, or `None` if they can.
-#[tactic(auto, unfolding(crate::specs::Opening::table_fault))]
+#[tactic(auto, unfolding(crate::specs::Formats::Elf::table_fault))]
 fn fault_of_table(header: &Header, length: u64, count: u32) -> Option<Fault>
     ensures fault { result ≡ table_fault length count header.now }
     ensures table { IfNone result (header.now.headers + 56 * count ≤ length) }
@@ -160,7 +151,7 @@ fn read_header<S: ByteSource>(source: &S) -> io::Result<Header>
 }
 
 /// Returns the fields of an ELF header.
-#[tactic(auto, unfolding(crate::specs::Opening::header_of))]
+#[tactic(auto, unfolding(crate::specs::Formats::Elf::header_of))]
 fn header_in(front: &[u8]) -> Header
     requires { length front.now ≡ 64 }
     ensures { result ≡ header_of front.now }

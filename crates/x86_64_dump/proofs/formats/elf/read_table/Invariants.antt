@@ -1,6 +1,6 @@
 use Rattle.std.proofs.Common.{◌≡◌, ◌+◌, ◌-◌, ◌*◌, ◌≤◌, length}
 use Rattle.x86_64_dump.specs.Dump.{segments_at}
-use Rattle.x86_64_dump.proofs.elf.read_table.Given as goal
+use Rattle.x86_64_dump.proofs.formats.elf.read_table.Given as goal
 
 -- the segments so far are those of the first program headers
 abbrev pub invariant-loop-done : goal.invariant-loop-done

@@ -1,6 +1,6 @@
 use Rattle.std.proofs.Common.{arith}
 use Rattle.x86_64_dump.proofs.Headers.{next_piece}
-use Rattle.x86_64_dump.proofs.elf.read_table.Goals as goal
+use Rattle.x86_64_dump.proofs.formats.elf.read_table.Goals as goal
 
 pub loop-done-preserved : goal.loop-done-preserved
 loop-done-preserved g c = record {

@@ -3,7 +3,8 @@
 -- within a range or a header.
 use Rattle.std.specs.Prelude.{ℕ, zero, suc, ◌+◌, ◌-◌, ◌^◌, ◌==◌, min, not, if◌then◌else◌, List, [], ◌∷◌, length, nat_lt, Result, Ok, Err}
 use Rattle.x86_64_dump.specs.Numbers.{u32_at, u64_at}
-use Rattle.x86_64_dump.specs.declared.lime.RangeHeader.{RangeHeader}
+use Rattle.x86_64_dump.specs.Steps.{and_then}
+use Rattle.x86_64_dump.specs.declared.formats.lime.RangeHeader.{RangeHeader}
 use Rattle.x86_64_dump.specs.declared.segment.Segment.{Segment}
 use Rattle.x86_64_dump.specs.declared.error.Fault.{Fault}
 use Rattle.x86_64_dump.specs.declared.error.Fault.TheVariants as faults
@@ -30,17 +31,12 @@ cut_header file_length at = if at == 0 then Err (faults.RangeHeaderCut file_leng
 unfoldable pub range_at : (file : List ℕ) → (at : ℕ) → Result Segment Fault
 range_at file at = if nat_lt (length file) (at + 32) then cut_header (length file) at else range_behind at (range_header_at file at)
 
--- The result of the next step `f` on a value, or the fault if there is one.
-abbrev pub after : {A B : Type 0} → Result A Fault → (A → Result B Fault) → Result B Fault
-after (Ok a) f = f a
-after (Err fault) f = Err fault
-
 -- The memory of the ranges from an offset to the end of the file, or why a header can't be read. No more than `most` ranges are
 -- taken.
 abbrev pub ranges_from : (most : ℕ) → (file : List ℕ) → (at : ℕ) → Result (List Segment) Fault
 ranges_from zero file at = Ok []
 ranges_from (suc most) file at = if nat_lt at (length file)
-    then after (range_at file at) (λ range. after (ranges_from most file (range.offset + range.size)) (λ ranges. Ok (range ∷ ranges)))
+    then and_then (range_at file at) (λ range. and_then (ranges_from most file (range.offset + range.size)) (λ ranges. Ok (range ∷ ranges)))
     else Ok []
 
 -- The memory of all ranges of a file, or why a header can't be read. There are no more ranges than bytes, since each header has
