@@ -217,7 +217,7 @@ RequestsOrNothingKeepOthers = (own : List ℕ) (shared : ℕ → Bool) (spaces :
 abbrev pub RangeMapsKeepOthers : Type 0
 RangeMapsKeepOthers = (own : List ℕ) (shared : ℕ → Bool) (spaces : List Layout) (lent after : Loan) → FitTogether own shared spaces lent
     → (h : Given) → In spaces (layout_given h) → (request : MapRequest) (count was status done : ℕ) → MapsWith own h lent request count was status after done
-    → ((k : ℕ) → k < count → Avoids h.levels shared (map_at h.levels (range_asked h.levels request) k))
+    → ((k : ℕ) → k < count → Avoids h.levels shared (map_at (range_asked h.levels request) k))
     → FitTogether own shared spaces after × OthersStay spaces h.root (numbered lent.tables) (numbered after.tables)
 
 -- After unmaps or changes of flags of a range in one of some address spaces that fit together, which touch nothing below a shared
