@@ -13,9 +13,7 @@ use x86_64_page::page::Size4KiB;
 use x86_64_tables::page_table::{
     EntryTarget, PageTable, PageTableEntry, PageTableFlags, Rights, has_flag,
 };
-use x86_64_tables::phys_memory::{
-    PageTableFrameMapping, TableMemory, index_of, span, table_in,
-};
+use x86_64_tables::phys_memory::{PageTableFrameMapping, TableMemory, index_of, span, table_in};
 
 /// Where a listing continues: at a position (the number of an address counted without the gap), with the remaining entries
 /// of a table, from the one that spans the position on.
