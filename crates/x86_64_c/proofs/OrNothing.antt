@@ -17,7 +17,6 @@ use Rattle.x86_64_model.specs.Hierarchy.{Hierarchy, allows, machine_of, path_of,
 use Rattle.x86_64_model.specs.Memory.{IsMapping, Memory}
 use Rattle.x86_64_model.specs.PathMap.{PathMap}
 use Rattle.x86_64_model.specs.Pool.{TakesBack}
-use Rattle.x86_64_model.specs.Refusal.{Answer}
 use Rattle.x86_64_model.specs.Store.{Store, StoreFits}
 use Rattle.x86_64_tables.specs.MapperAnswers.{map_answer, map_refusal}
 use Rattle.x86_64_tables.specs.PageTableFlags.{bits_of}
