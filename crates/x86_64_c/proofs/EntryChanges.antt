@@ -1,16 +1,14 @@
 -- A change of one entry, stated of the words in the caller's memory.
 use Rattle.std.proofs.Common.{◌≡◌, ◌≤◌, ◌<◌, inr, ℕ, Bool, true, cond, List, ◌∷◌, refl, sym, ap, ◌∙◌, subst, arith}
 use Rattle.std.proofs.lemmas.List.Sorted.{IsPermutation-refl}
-use Rattle.x86_64_model.specs.Call.{Call, IsCall, Answered, NotAllowed}
+use Rattle.x86_64_model.specs.Call.{Call, IsCall, IsPageLevel, Answered, NotAllowed}
 use Rattle.x86_64_model.specs.Entry.{IsParentFlags}
 use Rattle.x86_64_model.specs.Layout.{Layout}
 use Rattle.x86_64_model.specs.Machine.{AfterCall, only_reply, do_call, step}
 use Rattle.x86_64_model.specs.Hierarchy.{Hierarchy, Does, PoolFits, Valid, allows, machine_of, state_in, SupplyFits}
 use Rattle.x86_64_model.specs.Memory.{Memory}
-use Rattle.x86_64_model.specs.Path.{IsPage, path_at}
 use Rattle.x86_64_model.specs.Pool.{TakesBack}
 use Rattle.x86_64_model.specs.Refusal.{Answer}
-use Rattle.x86_64_model.proofs.Lemmas.Machines.Effects.{page_at_level}
 use Rattle.x86_64_model.proofs.Lemmas.Machines.Fitting.{ready_of_fits}
 use Rattle.x86_64_model.proofs.Lemmas.Machines.Giving.{giving_from}
 use Rattle.x86_64_model.proofs.Lemmas.Machines.Owners.{change_leads}
@@ -75,5 +73,5 @@ changes h after l m n layout memory left call answer status adds is may does tol
 pub plain : IsParentFlags 0
 plain = no_flags.adds
 
-pub is_page : (L : ℕ) → 3 < L → (level : ℕ) → 1 ≤ level → level ≤ 3 → (page : ℕ) → IsPage L (path_at L level page)
-is_page L some level low high page = page_at_level L level page low high (omega (arith, some, high))
+pub is_page_level : (L : ℕ) → 3 < L → (level : ℕ) → 1 ≤ level → level ≤ 3 → IsPageLevel L level
+is_page_level L some level low high = (low, high, omega (arith, some, high))

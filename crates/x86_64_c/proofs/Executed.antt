@@ -1,10 +1,10 @@
 -- A request with a number of levels, stated of what the caller handed in.
 use Rattle.std.proofs.Common.{◌≡◌, ℕ, true, false, List, Some, None, refl, sym, ap, ap₂, subst₂, ◌∙◌}
 use Rattle.std.specs.Option.{option_or}
+use Rattle.x86_64_model.specs.Call.{MapToWithTableFlags}
 use Rattle.x86_64_model.specs.Position.{span}
-use Rattle.x86_64.specs.Asked.{MapToWithTableFlags}
 use Rattle.x86_64_c.specs.Arguments.{IsPageOf, wrong_frame, wrong_page, hierarchy_in, starts_frame, unless}
-use Rattle.x86_64_c.specs.PoolCalls.{Executes, Loan, Request, RunsCall, wrong_pool_call, bad_map, loan, map_asked, on_page}
+use Rattle.x86_64_c.specs.PoolCalls.{Executes, Loan, Request, RunsCall, wrong_pool_call, bad_map, loan, map_asked}
 use Rattle.x86_64_c.specs.Status as status
 use Rattle.x86_64_c.specs.declared.arguments.Hierarchy.{Hierarchy as Given}
 use Rattle.x86_64_c.specs.declared.arguments.MapRequest.{MapRequest}
@@ -46,5 +46,5 @@ module _ (request : MapRequest) {L level position size : ℕ} (good : wrong_page
 
 -- the call for a page is the requested one
 pub requested : (L : ℕ) (request : MapRequest) (level position : ℕ) → IsPageOf L request.page level position
-    → on_page level (MapToWithTableFlags position request.frame request.flags request.parent_flags) ≡ map_asked L request
-requested L request level position is = ap₂ (λ v p. on_page v (MapToWithTableFlags p request.frame request.flags request.parent_flags)) is.level_is is.position_is
+    → MapToWithTableFlags level position request.frame request.flags request.parent_flags ≡ map_asked L request
+requested L request level position is = ap₂ (λ v p. MapToWithTableFlags v p request.frame request.flags request.parent_flags) is.level_is is.position_is

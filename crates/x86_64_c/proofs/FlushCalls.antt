@@ -8,7 +8,7 @@ use Rattle.x86_64_model.specs.Flushing.{PageDue, BelowDue, if_accepted, if_allow
 use Rattle.x86_64_model.specs.Machine.{Machine, State, do_call, step}
 use Rattle.x86_64_model.specs.MapRule.{map_call}
 use Rattle.x86_64_model.specs.PageRules.{unmap, update_flags, set_flags}
-use Rattle.x86_64_model.specs.Path.{front_at, is_small}
+use Rattle.x86_64_model.specs.Path.{front_at, is_small, path_at}
 use Rattle.x86_64_model.specs.Refusal.{Answer, Done, Refused, PageNotMapped, ParentEntryHugePage, InvalidFrameAddress, PageAlreadyMapped, FrameAllocationFailed}
 use Rattle.x86_64_model.specs.Window.{entry_at}
 use Rattle.x86_64_model.proofs.Lemmas.Machines.Effects.{step_cases}
@@ -34,36 +34,36 @@ map_due : (b : Bool) (q : List ℕ) → cond b 3 0 ≡ rank (flush_for (cond b (
 map_due true q = refl
 map_due false q = refl
 
-mapped : (L more frame given : ℕ) (q : List ℕ) (answer : Answer) → Agrees 0 more L (MapToWithTableFlags q frame given more) (Answered answer)
-mapped L more frame given q answer = of_map more answer ∙ map_due (no_execute more) _
+mapped : (L more frame given level page : ℕ) (answer : Answer) → Agrees 0 more L (MapToWithTableFlags level page frame given more) (Answered answer)
+mapped L more frame given level page answer = of_map more answer ∙ map_due (no_execute more) _
 
 page_due : (b : Bool) (q : List ℕ) (frame : ℕ) → 2 ≡ rank (flush_for (PageDue q frame ∷ cond b [] []))
 page_due true q frame = refl
 page_due false q frame = refl
 
-unmapped : (L more : ℕ) (q : List ℕ) (answer : Answer) → Agrees 1 more L (Unmap q) (Answered answer)
-unmapped L more q (Done frame) = page_due (is_small L q) q frame
-unmapped L more q (Refused PageNotMapped) = refl
-unmapped L more q (Refused ParentEntryHugePage) = refl
-unmapped L more q (Refused (InvalidFrameAddress a)) = refl
-unmapped L more q (Refused (PageAlreadyMapped frame)) = refl
-unmapped L more q (Refused FrameAllocationFailed) = refl
+unmapped : (L more level page : ℕ) (answer : Answer) → Agrees 1 more L (Unmap level page) (Answered answer)
+unmapped L more level page (Done frame) = let q = path_at L level page in page_due (is_small L q) q frame
+unmapped L more level page (Refused PageNotMapped) = refl
+unmapped L more level page (Refused ParentEntryHugePage) = refl
+unmapped L more level page (Refused (InvalidFrameAddress a)) = refl
+unmapped L more level page (Refused (PageAlreadyMapped frame)) = refl
+unmapped L more level page (Refused FrameAllocationFailed) = refl
 
-updated : (L more given : ℕ) (q : List ℕ) (answer : Answer) → Agrees 2 more L (UpdateFlags q given) (Answered answer)
-updated L more given q (Done frame) = page_due (is_small L q) q frame
-updated L more given q (Refused PageNotMapped) = refl
-updated L more given q (Refused ParentEntryHugePage) = refl
-updated L more given q (Refused (InvalidFrameAddress a)) = refl
-updated L more given q (Refused (PageAlreadyMapped frame)) = refl
-updated L more given q (Refused FrameAllocationFailed) = refl
+updated : (L more given level page : ℕ) (answer : Answer) → Agrees 2 more L (UpdateFlags level page given) (Answered answer)
+updated L more given level page (Done frame) = let q = path_at L level page in page_due (is_small L q) q frame
+updated L more given level page (Refused PageNotMapped) = refl
+updated L more given level page (Refused ParentEntryHugePage) = refl
+updated L more given level page (Refused (InvalidFrameAddress a)) = refl
+updated L more given level page (Refused (PageAlreadyMapped frame)) = refl
+updated L more given level page (Refused FrameAllocationFailed) = refl
 
-set : (L more level given : ℕ) (q : List ℕ) (answer : Answer) → Agrees 3 more L (SetFlags level q given) (Answered answer)
-set L more level given q (Done frame) = refl
-set L more level given q (Refused PageNotMapped) = refl
-set L more level given q (Refused ParentEntryHugePage) = refl
-set L more level given q (Refused (InvalidFrameAddress a)) = refl
-set L more level given q (Refused (PageAlreadyMapped frame)) = refl
-set L more level given q (Refused FrameAllocationFailed) = refl
+set : (L more at given level page : ℕ) (answer : Answer) → Agrees 3 more L (SetFlags at level page given) (Answered answer)
+set L more at given level page (Done frame) = refl
+set L more at given level page (Refused PageNotMapped) = refl
+set L more at given level page (Refused ParentEntryHugePage) = refl
+set L more at given level page (Refused (InvalidFrameAddress a)) = refl
+set L more at given level page (Refused (PageAlreadyMapped frame)) = refl
+set L more at given level page (Refused FrameAllocationFailed) = refl
 
 page_most : (b : Bool) (q : List ℕ) (r : Reply) → rank (flush_for (if_accepted r (λ frame. PageDue q frame ∷ cond b [] []))) ≤ 2
 page_most b q NotAllowed = omega arith
@@ -82,26 +82,26 @@ some_is a b same = cc
 -- the machine's reply to a call that callers can make
 by_call : (m : Machine) (s : State) (call : Call) (kind more : ℕ) → IsAsked kind more call → Agrees kind more m.levels call (step m s call).reply
 unfolding do_call
-by_call m s (MapTo q frame given) kind more asked = cc
-by_call m s (MapToWithTableFlags q frame given flags) kind more asked =
-    subst (λ k. Agrees k more m.levels (MapToWithTableFlags q frame given flags) (step m s (MapToWithTableFlags q frame given flags)).reply) (some_is 0 kind asked.kind_is)
-    (subst (λ f. Agrees 0 f m.levels (MapToWithTableFlags q frame given flags) (step m s (MapToWithTableFlags q frame given flags)).reply) asked.flags_are
-    (step_cases m s (MapToWithTableFlags q frame given flags) (λ after. Agrees 0 flags m.levels (MapToWithTableFlags q frame given flags) after.reply)
-    (λ _. mapped m.levels flags frame given q (map_call m.levels s.paths s.pool flags m.added_flags q frame given).answer) refl))
+by_call m s (MapTo level page frame given) kind more asked = cc
+by_call m s (MapToWithTableFlags level page frame given flags) kind more asked =
+    subst (λ k. Agrees k more m.levels (MapToWithTableFlags level page frame given flags) (step m s (MapToWithTableFlags level page frame given flags)).reply) (some_is 0 kind asked.kind_is)
+    (subst (λ f. Agrees 0 f m.levels (MapToWithTableFlags level page frame given flags) (step m s (MapToWithTableFlags level page frame given flags)).reply) asked.flags_are
+    (step_cases m s (MapToWithTableFlags level page frame given flags) (λ after. Agrees 0 flags m.levels (MapToWithTableFlags level page frame given flags) after.reply)
+    (λ _. mapped m.levels flags frame given level page (map_call m.levels s.paths s.pool flags m.added_flags (path_at m.levels level page) frame given).answer) refl))
 by_call m s (IdentityMap level frame given) kind more asked = cc
-by_call m s (Unmap q) kind more asked =
-    subst (λ k. Agrees k more m.levels (Unmap q) (step m s (Unmap q)).reply) (some_is 1 kind asked.kind_is)
-    (step_cases m s (Unmap q) (λ after. Agrees 1 more m.levels (Unmap q) after.reply)
-    (λ _. unmapped m.levels more q (unmap m.levels (entry_at m.window s.paths) s.paths q).answer) refl)
-by_call m s (UpdateFlags q given) kind more asked =
-    subst (λ k. Agrees k more m.levels (UpdateFlags q given) (step m s (UpdateFlags q given)).reply) (some_is 2 kind asked.kind_is)
-    (step_cases m s (UpdateFlags q given) (λ after. Agrees 2 more m.levels (UpdateFlags q given) after.reply)
-    (λ _. updated m.levels more given q (update_flags m.levels (entry_at m.window s.paths) s.paths q given).answer) refl)
-by_call m s (SetFlags level q given) kind more asked =
-    subst (λ k. Agrees k more m.levels (SetFlags level q given) (step m s (SetFlags level q given)).reply) (some_is 3 kind asked.kind_is)
-    (step_cases m s (SetFlags level q given) (λ after. Agrees 3 more m.levels (SetFlags level q given) after.reply)
-    (λ _. set m.levels more level given q (set_flags m.levels (entry_at m.window s.paths) s.paths level q given).answer) refl)
-by_call m s (TranslatePage q) kind more asked = cc
+by_call m s (Unmap level page) kind more asked =
+    subst (λ k. Agrees k more m.levels (Unmap level page) (step m s (Unmap level page)).reply) (some_is 1 kind asked.kind_is)
+    (step_cases m s (Unmap level page) (λ after. Agrees 1 more m.levels (Unmap level page) after.reply)
+    (λ _. unmapped m.levels more level page (unmap m.levels (entry_at m.window s.paths) s.paths (path_at m.levels level page)).answer) refl)
+by_call m s (UpdateFlags level page given) kind more asked =
+    subst (λ k. Agrees k more m.levels (UpdateFlags level page given) (step m s (UpdateFlags level page given)).reply) (some_is 2 kind asked.kind_is)
+    (step_cases m s (UpdateFlags level page given) (λ after. Agrees 2 more m.levels (UpdateFlags level page given) after.reply)
+    (λ _. updated m.levels more given level page (update_flags m.levels (entry_at m.window s.paths) s.paths (path_at m.levels level page) given).answer) refl)
+by_call m s (SetFlags at level page given) kind more asked =
+    subst (λ k. Agrees k more m.levels (SetFlags at level page given) (step m s (SetFlags at level page given)).reply) (some_is 3 kind asked.kind_is)
+    (step_cases m s (SetFlags at level page given) (λ after. Agrees 3 more m.levels (SetFlags at level page given) after.reply)
+    (λ _. set m.levels more at given level page (set_flags m.levels (entry_at m.window s.paths) s.paths at (path_at m.levels level page) given).answer) refl)
+by_call m s (TranslatePage level page) kind more asked = cc
 by_call m s (Translate p) kind more asked = cc
 by_call m s (TranslateAddress p) kind more asked = cc
 by_call m s (CleanUp low high) kind more asked = subst (λ k. Agrees k more m.levels (CleanUp low high) (step m s (CleanUp low high)).reply) (some_is 4 kind asked.kind_is) refl
@@ -135,10 +135,10 @@ made kind more s is = by (s == 0) refl (s == 2) refl
 -- what is due after a call, whatever its reply
 due_most : (L : ℕ) (call : Call) (reply : Reply) (kind more : ℕ) → IsAsked kind more call → flush_number L call reply ≤ most kind more
 unfolding most
-due_most L (MapTo q frame given) reply kind more asked = cc
-due_most L (MapToWithTableFlags q frame given flags) reply kind more asked =
-    subst (λ k. flush_number L (MapToWithTableFlags q frame given flags) reply ≤ most k more) (some_is 0 kind asked.kind_is)
-    (subst (λ f. flush_number L (MapToWithTableFlags q frame given flags) reply ≤ flush_after_map f) asked.flags_are (by (no_execute flags) (take 1 q) reply))
+due_most L (MapTo level page frame given) reply kind more asked = cc
+due_most L (MapToWithTableFlags level page frame given flags) reply kind more asked =
+    subst (λ k. flush_number L (MapToWithTableFlags level page frame given flags) reply ≤ most k more) (some_is 0 kind asked.kind_is)
+    (subst (λ f. flush_number L (MapToWithTableFlags level page frame given flags) reply ≤ flush_after_map f) asked.flags_are (by (no_execute flags) (take 1 (path_at L level page)) reply))
   where
     by : (b : Bool) (path : List ℕ) (r : Reply) → rank (flush_for (if_allowed r (cond b (BelowDue path ∷ []) []))) ≤ cond b 3 0
     by true path NotAllowed = omega arith
@@ -152,9 +152,9 @@ due_most L (MapToWithTableFlags q frame given flags) reply kind more asked =
     by false path (Address a) = omega arith
     by false path Cleaned = omega arith
 due_most L (IdentityMap level frame given) reply kind more asked = cc
-due_most L (Unmap q) reply kind more asked = subst (λ k. flush_number L (Unmap q) reply ≤ most k more) (some_is 1 kind asked.kind_is) (page_most (is_small L q) q reply)
-due_most L (UpdateFlags q given) reply kind more asked = subst (λ k. flush_number L (UpdateFlags q given) reply ≤ most k more) (some_is 2 kind asked.kind_is) (page_most (is_small L q) q reply)
-due_most L (SetFlags level q given) reply kind more asked = subst (λ k. flush_number L (SetFlags level q given) reply ≤ most k more) (some_is 3 kind asked.kind_is) (by (front_at L level q) reply)
+due_most L (Unmap level page) reply kind more asked = subst (λ k. flush_number L (Unmap level page) reply ≤ most k more) (some_is 1 kind asked.kind_is) (let q = path_at L level page in page_most (is_small L q) q reply)
+due_most L (UpdateFlags level page given) reply kind more asked = subst (λ k. flush_number L (UpdateFlags level page given) reply ≤ most k more) (some_is 2 kind asked.kind_is) (let q = path_at L level page in page_most (is_small L q) q reply)
+due_most L (SetFlags at level page given) reply kind more asked = subst (λ k. flush_number L (SetFlags at level page given) reply ≤ most k more) (some_is 3 kind asked.kind_is) (by (front_at L at (path_at L level page)) reply)
   where
     by : (path : List ℕ) (r : Reply) → rank (flush_for (if_accepted r (λ frame. BelowDue path ∷ []))) ≤ 3
     by path NotAllowed = omega arith
@@ -163,7 +163,7 @@ due_most L (SetFlags level q given) reply kind more asked = subst (λ k. flush_n
     by path (Position t) = omega arith
     by path (Address a) = omega arith
     by path Cleaned = omega arith
-due_most L (TranslatePage q) reply kind more asked = cc
+due_most L (TranslatePage level page) reply kind more asked = cc
 due_most L (Translate p) reply kind more asked = cc
 due_most L (TranslateAddress p) reply kind more asked = cc
 due_most L (CleanUp low high) reply kind more asked = subst (λ k. flush_number L (CleanUp low high) reply ≤ most k more) (some_is 4 kind asked.kind_is) (omega arith)

@@ -8,42 +8,37 @@ use Rattle.x86_64_live.specs.declared.map.PageMap.{PageMap}
 use Rattle.x86_64_mappers.specs.Supplies.{Supply}
 use Rattle.x86_64_model.specs.Allowed.{refuses as is_refused}
 use Rattle.x86_64_model.specs.Call as machine
-use Rattle.x86_64_model.specs.Call.{Call}
+use Rattle.x86_64_model.specs.Call.{Call, MapToWithTableFlags}
 use Rattle.x86_64_model.specs.Entry.{IsParentFlags}
 use Rattle.x86_64_model.specs.Layout.{Layout}
 use Rattle.x86_64_model.specs.Machine.{AfterCall, Machine, State, only_reply, do_call, step}
 use Rattle.x86_64_model.specs.MapRule.{AfterMap, map_call}
 use Rattle.x86_64_model.specs.Hierarchy.{Hierarchy, allows, machine_of, path_of, paths, state_in}
 use Rattle.x86_64_model.specs.Memory.{IsMapping, Memory}
-use Rattle.x86_64_model.specs.PageCalls.{page_call}
 use Rattle.x86_64_model.specs.PathMap.{PathMap}
 use Rattle.x86_64_model.specs.Pool.{TakesBack}
-use Rattle.x86_64_model.specs.Refusal.{Answer}
 use Rattle.x86_64_model.specs.Store.{Store, StoreFits}
 use Rattle.x86_64_tables.specs.MapperAnswers.{map_answer, map_refusal}
 use Rattle.x86_64_tables.specs.PageTableFlags.{bits_of}
 use Rattle.x86_64_tables.specs.declared.errors.MapToError.{MapToError}
 use Rattle.x86_64_tables.specs.declared.errors.MapToError.TheVariants.{FrameAllocationFailed, ParentEntryHugePage, PageAlreadyMapped}
-use Rattle.x86_64.specs.Asked.{PageCall, MapperCall, MapToWithTableFlags, Of4KiB, Of2MiB, Of1GiB, machine_call}
-use Rattle.x86_64.specs.Replies.{Reply, SizeReply, size_answer, sized, reply_of}
+use Rattle.x86_64.specs.Replies.{Reply, reply_of}
 use Rattle.x86_64.specs.Runs.{AfterStep}
-use Rattle.x86_64.specs.declared.call_values.MapperReply.TheVariants as reply
-use Rattle.x86_64.specs.declared.call_values.PageReply.TheVariants.{Map}
 use Rattle.x86_64_c.specs.Calls.{refusal_status, reply_status, result_status}
 use Rattle.x86_64_c.specs.Arguments.{hierarchy_in}
-use Rattle.x86_64_c.specs.PoolCalls.{ExecutesOrNothing, Request, RunsCall, wrong_pool_call, loan, machine_status, on_page, pool_in}
+use Rattle.x86_64_c.specs.PoolCalls.{ExecutesOrNothing, Request, RunsCall, wrong_pool_call, loan, machine_status, pool_in}
 use Rattle.x86_64_c.specs.Status.{ok}
 use Rattle.x86_64_c.specs.declared.arguments.Hierarchy.{Hierarchy as Given}
 use Rattle.x86_64_c.specs.private.OrNothing.{RunsIfOk, RunsOrNothing, is_refusal}
 use Rattle.x86_64_c.proofs.ArgumentsGiven.{kept}
 use Rattle.x86_64_c.proofs.EntryChanges.{of}
 use Rattle.x86_64_c.proofs.Executed.{executes, refuses}
-use Rattle.x86_64_c.proofs.PoolSteps.{by_level, mapped}
+use Rattle.x86_64_c.proofs.PoolSteps.{map_told, mapped}
 
 -- ---- statuses
 
 -- a call that was executed returned the status of the machine's reply
-pub if_ok : (h : Hierarchy (Unit {0})) (pool : Store) (call : MapperCall) (after : Hierarchy (Unit {0})) (rest : Store) (status : ℕ) → RunsCall h pool call after rest status → RunsIfOk h pool call after rest status
+pub if_ok : (h : Hierarchy (Unit {0})) (pool : Store) (call : Call) (after : Hierarchy (Unit {0})) (rest : Store) (status : ℕ) → RunsCall h pool call after rest status → RunsIfOk h pool call after rest status
 if_ok h pool call after rest status runs = record {
   status_is = ap Some runs.status_is ∙ sym (ap (λ (a : AfterStep Reply). option_map reply_status a.reply) runs.step);
   done = λ fine. runs;
@@ -63,11 +58,8 @@ if_refused P (Err why) status told refused holds = holds
 -- ---- the machine's reply to a map
 
 module _ (l : Layout) (store : Store) (m : Memory) (page frame given more : ℕ) where
-  abbrev map : PageCall
-  map = MapToWithTableFlags page frame given more
-
   abbrev call : (level : ℕ) → Call
-  call level = page_call l.levels level map
+  call level = MapToWithTableFlags level page frame given more
 
   abbrev rule : (level : ℕ) → AfterMap
   rule level = map_call l.levels (paths (of l m)) store.frames more l.added_flags (path_of (of l m) level page) frame given
@@ -79,34 +71,17 @@ module _ (l : Layout) (store : Store) (m : Memory) (page frame given more : ℕ)
   before = state_in l m store.frames
 
   -- an allowed map is answered by the rule
-  replies : (level : ℕ) (on : MapperCall) → machine_call l.levels on ≡ call level → allows (of l m) (call level) ≡ true
-      → (step the_machine before (machine_call l.levels on)).reply ≡ machine.Answered (rule level).answer
+  answers : (level : ℕ) → allows (of l m) (call level) ≡ true → (step the_machine before (call level)).reply ≡ machine.Answered (rule level).answer
   unfolding do_call
-  replies level on is may =
-      ap (λ c. (step the_machine before c).reply) is
-      ∙ ap (λ b. let a : AfterCall = cond b (do_call the_machine before (call level)) (only_reply before machine.NotAllowed) in a.reply) may
+  answers level may = ap (λ b. let a : AfterCall = cond b (do_call the_machine before (call level)) (only_reply before machine.NotAllowed) in a.reply) may
 
-  status_on : (level : ℕ) (on : MapperCall) → machine_call l.levels on ≡ call level → (status : ℕ) (answer : Answer) → Some status ≡ option_map reply_status (reply_of on (machine.Answered answer))
-      → allows (of l m) (call level) ≡ true → answer ≡ (rule level).answer → Some status ≡ machine_status (of l m) store on
-  status_on level on is status answer told may same =
-      told ∙ ap (λ a. option_map reply_status (reply_of on (machine.Answered a))) same ∙ sym (ap (λ r. option_map reply_status (reply_of on r)) (replies level on is may))
-
-  -- the status of the reply to a map of a page of a size
-  of_size : {S E : Type 0} (wrap : SizeReply E → Reply) → ((r : Result ℕ (MapToError E)) → reply_status (wrap (Map r)) ≡ result_status map_refusal r) → (r : Result ℕ (MapToError S))
-      → Some (result_status map_refusal r) ≡ option_map reply_status (option_map (sized wrap) (size_answer map (machine.Answered (map_answer frame r))))
-  of_size wrap tells (Ok flush) = sym (ap Some (tells (Ok page)))
-  of_size wrap tells (Err FrameAllocationFailed) = sym (ap Some (tells (Err FrameAllocationFailed)))
-  of_size wrap tells (Err ParentEntryHugePage) = sym (ap Some (tells (Err ParentEntryHugePage)))
-  of_size wrap tells (Err (PageAlreadyMapped at)) = sym (ap Some (tells (Err (PageAlreadyMapped at))))
-
-  -- an allowed map whose answer is the rule's has the status of the machine's reply
+  -- one whose answer is the rule's has the status of the machine's reply
   pub status_told : {S : Type 0} (r : Result ℕ (MapToError S)) (level : ℕ) → 1 ≤ level → level ≤ 3 → allows (of l m) (call level) ≡ true → map_answer frame r ≡ (rule level).answer
-      → Some (result_status map_refusal r) ≡ machine_status (of l m) store (on_page level map)
-  status_told r =
-      by_level (λ k. allows (of l m) (call k) ≡ true → map_answer frame r ≡ (rule k).answer → Some (result_status map_refusal r) ≡ machine_status (of l m) store (on_page k map))
-      (status_on 1 (Of4KiB map) refl (result_status map_refusal r) (map_answer frame r) (of_size reply.Of4KiB (λ r. refl) r))
-      (status_on 2 (Of2MiB map) refl (result_status map_refusal r) (map_answer frame r) (of_size reply.Of2MiB (λ r. refl) r))
-      (status_on 3 (Of1GiB map) refl (result_status map_refusal r) (map_answer frame r) (of_size reply.Of1GiB (λ r. refl) r))
+      → Some (result_status map_refusal r) ≡ machine_status (of l m) store (call level)
+  status_told r level low high may same =
+      let tells = map_told page frame given more r level low high in
+      ap Some tells.status_is ∙ sym (ap (option_map reply_status) tells.replies) ∙ ap (λ a. option_map reply_status (reply_of (call level) (machine.Answered a))) same
+      ∙ sym (ap (λ r. option_map reply_status (reply_of (call level) r)) (answers level may))
 
 -- ---- maps that are done or change nothing
 
@@ -133,7 +108,7 @@ module _ {S L : Type 0} (l : Layout) (store : Store) (m : Memory) (map : PageMap
   more = bits_of map.parent_flags
 
   abbrev Allowed : (level : ℕ) → Type 0
-  Allowed level = allows (of l m) (page_call l.levels level (call_for map)) ≡ true
+  Allowed level = allows (of l m) (call_for level map) ≡ true
 
   -- the map of a page of a level in another memory had this result
   abbrev MapsFrom : {E : Type 0} → Memory → (level : ℕ) → Result ℕ (MapToError E) → Type 0
@@ -141,14 +116,14 @@ module _ {S L : Type 0} (l : Layout) (store : Store) (m : Memory) (map : PageMap
       MapsOrNothing (of l k) (record { frames = store.frames; serves = store.serves }) level map (map_answer map.frame r) (of l n) (record { frames = rest.frames; serves = rest.serves })
 
   runs_if_ok : {E : Type 0} (r : Result ℕ (MapToError E)) → IfOk r (λ flush. flush ≡ map.page) → status ≡ result_status map_refusal r → (level : ℕ) → 1 ≤ level → level ≤ 3
-      → MapsFrom m level r → Allowed level → status ≡ ok → RunsCall (of l m) store (on_page level (call_for map)) (of l n) rest status
+      → MapsFrom m level r → Allowed level → status ≡ ok → RunsCall (of l m) store (call_for level map) (of l n) rest status
   runs_if_ok {E = E} (Ok flush) same told level low high maps may fine =
       let done = maps.done refl in
-      mapped l store m map.page map.frame given more rest done.serves n status some adds gives mapping fits {S = E} (Ok flush) same told level low high done.map may
+      mapped map.page map.frame given more l store m rest done.serves n status some adds gives mapping fits {S = E} (Ok flush) same told level low high done.map may
   runs_if_ok (Err why) same told level low high maps may fine = absurd (not_ok why (sym told ∙ fine))
 
   pub mapped_or_nothing : {E : Type 0} (k : Memory) (r : Result ℕ (MapToError E)) → IfOk r (λ flush. flush ≡ map.page) → status ≡ result_status map_refusal r → (level : ℕ) → 1 ≤ level → level ≤ 3
-      → k ≡ m → MapsFrom k level r → Allowed level → RunsIfOk (of l m) store (on_page level (call_for map)) (of l n) rest status
+      → k ≡ m → MapsFrom k level r → Allowed level → RunsIfOk (of l m) store (call_for level map) (of l n) rest status
   mapped_or_nothing k r same told level low high memory maps may =
       let here : MapsFrom m level r = subst (λ k. MapsFrom k level r) memory maps in
       let answer : map_answer map.frame r ≡ (by_rule (of l m) store.frames level map).answer =

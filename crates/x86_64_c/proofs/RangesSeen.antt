@@ -1,27 +1,26 @@
 -- What a mapper did with a range, stated of the words in the caller's memory.
 use Rattle.std.proofs.Common.{zero, suc, ◌≡◌, inl, inr, ◌≤◌, ◌<◌, ◌+◌, ◌*◌, ℕ, Bool, false, List, [], ◌∷◌, ◌++◌, length, Option, Some, Result, Ok, Err, IfOk, IfErr, refl, sym, ap, ◌∙◌, subst, subst₂, arith}
 use Rattle.std.proofs.lemmas.List.FromFn.{length-map-range_with_len}
-use Rattle.x86_64_model.specs.Call.{Call, Reply, NotAllowed, Answered, Position, Address, Cleaned, Unmap, UpdateFlags}
+use Rattle.x86_64_model.specs.Call.{Call, IsPageLevel, Reply, NotAllowed, Answered, Position, Address, Cleaned, Unmap, UpdateFlags}
 use Rattle.x86_64_model.specs.Entry.{IsParentFlags}
 use Rattle.x86_64_model.specs.Layout.{Layout}
 use Rattle.x86_64_model.specs.Machine.{Machine, State, step, replies_of}
 use Rattle.x86_64_model.specs.Hierarchy.{Hierarchy, PoolFits, machine_of, state_in}
 use Rattle.x86_64_model.specs.Memory.{Memory, Places}
-use Rattle.x86_64_model.specs.Path.{IsPage, path_at}
+use Rattle.x86_64_model.specs.Path.{path_at}
 use Rattle.x86_64_model.specs.Position.{span, position_count}
 use Rattle.x86_64_model.specs.Refusal.{Done, Refused}
 use Rattle.x86_64_model.specs.Store.{KeepsPool, Store, put_first}
 use Rattle.x86_64_model.specs.Window.{begins_with}
-use Rattle.x86_64_model.proofs.Lemmas.Machines.Effects.{page_at_level}
 use Rattle.x86_64_model.proofs.Lemmas.Machines.Fitting.{AllCalls, ready_of_fits}
 use Rattle.x86_64_model.proofs.Lemmas.Paths.Pages.{span_pos}
 use Rattle.x86_64_mappers.specs.Layouts.{direct_at}
 use Rattle.x86_64_mappers.specs.RangeChanges.{DoesChanges, IsRange, frames_done, unmaps, updates}
-use Rattle.x86_64_mappers.specs.Ranges.{DoesMaps, IsNextMap, MapRange, MapsByResult, MapsEach, MayMapRange, accepted_maps, map_at, maps, range_page}
+use Rattle.x86_64_mappers.specs.Ranges.{DoesMaps, IsNextMap, MapRange, MapsByResult, MapsEach, MayMapRange, accepted_maps, map_at, maps}
 use Rattle.x86_64_mappers.specs.declared.walk.map_range.MapRangeErrorIn.{MapRangeErrorIn}
 use Rattle.x86_64_tables.specs.FlushRecorder.{FlushRange, flush_range}
 use Rattle.x86_64_tables.specs.MapperAnswers.{map_refusal}
-use Rattle.x86_64_c.proofs.EntryChanges.{of}
+use Rattle.x86_64_c.proofs.EntryChanges.{is_page_level, of}
 use Rattle.x86_64_c.proofs.RangeArguments.{page_before}
 use Rattle.x86_64_c.proofs.RangeKeeps.{keeps_calls, are_calls}
 use Rattle.x86_64_c.specs.Calls.{result_status}
@@ -54,17 +53,17 @@ module _ {Lent : Type 0} (h : Hierarchy Lent) (l : Layout) (m : Memory) (layout 
       subst (λ k. MayMapRange (of k m) r count) layout (subst (λ n. MayMapRange (of h.layout n) r count) memory there)
 
 module _ (L level : ℕ) (low : 1 ≤ level) (high : level ≤ 3) (some : 3 < L) where
-  within : level ≤ L
-  within = omega (arith, some, high)
+  is_level : IsPageLevel L level
+  is_level = is_page_level L some level low high
 
-  pub maps_are : (r : MapRange) → r.level ≡ level → (count : ℕ) → AllCalls L (maps L r count)
-  maps_are r is count = are_calls L (λ k. map_at L r k) (λ k. subst (λ v. IsPage L (path_at L v (range_page r k))) (sym is) (page_at_level L level (range_page r k) low high within)) 0 count
+  pub maps_are : (r : MapRange) → r.level ≡ level → (count : ℕ) → AllCalls L (maps r count)
+  maps_are r is count = are_calls L (λ k. map_at r k) (λ k. subst (IsPageLevel L) (sym is) is_level) 0 count
 
-  pub unmaps_are : (page count : ℕ) → AllCalls L (unmaps L level page count)
-  unmaps_are page count = are_calls L (λ k. Unmap (path_at L level (page + k * span level))) (λ k. page_at_level L level (page + k * span level) low high within) 0 count
+  pub unmaps_are : (page count : ℕ) → AllCalls L (unmaps level page count)
+  unmaps_are page count = are_calls L (λ k. Unmap level (page + k * span level)) (λ k. is_level) 0 count
 
-  pub updates_are : (page flags count : ℕ) → AllCalls L (updates L level page flags count)
-  updates_are page given count = are_calls L (λ k. UpdateFlags (path_at L level (page + k * span level)) given) (λ k. page_at_level L level (page + k * span level) low high within) 0 count
+  pub updates_are : (page flags count : ℕ) → AllCalls L (updates level page flags count)
+  updates_are page given count = are_calls L (λ k. UpdateFlags level (page + k * span level) given) (λ k. is_level) 0 count
 
 -- ---- changes
 
@@ -80,15 +79,15 @@ seen_changes h after calls replies does = record {
 }
 
 pub changes_each : {Lent : Type 0} (h after : Hierarchy Lent) (l : Layout) (m n : Memory) → h.layout ≡ l → h.memory ≡ m → after.memory ≡ n → IsParentFlags l.added_flags
-    → (calls : (L : ℕ) → List Call) (replies : List Reply) → AllCalls l.levels (calls l.levels) → DoesChanges h (calls h.layout.levels) replies after → ChangesRange (of l m) (calls l.levels) replies (of l n)
+    → (calls : List Call) (replies : List Reply) → AllCalls l.levels calls → DoesChanges h calls replies after → ChangesRange (of l m) calls replies (of l n)
 changes_each h after l m n layout memory left adds calls replies are does =
-    let did = subst (λ l. DoesChanges (of l m) (calls l.levels) replies (of l n)) layout
-    (subst (λ m. DoesChanges (of h.layout m) (calls h.layout.levels) replies (of h.layout n)) memory
-    (subst (λ n. DoesChanges (of h.layout h.memory) (calls h.layout.levels) replies (of h.layout n)) left
-    (subst (λ k. DoesChanges (of h.layout h.memory) (calls h.layout.levels) replies (of k after.memory)) does.layout (seen_changes h after (calls h.layout.levels) replies does)))) in
+    let did = subst (λ l. DoesChanges (of l m) calls replies (of l n)) layout
+    (subst (λ m. DoesChanges (of h.layout m) calls replies (of h.layout n)) memory
+    (subst (λ n. DoesChanges (of h.layout h.memory) calls replies (of h.layout n)) left
+    (subst (λ k. DoesChanges (of h.layout h.memory) calls replies (of k after.memory)) does.layout (seen_changes h after calls replies does)))) in
     record {
       does = did;
-      keeps = λ serves pool fits. keeps_calls l adds serves m pool fits (calls l.levels) are n pool (did.state pool put_first) (did.fits pool (ready_of_fits l m serves pool fits))
+      keeps = λ serves pool fits. keeps_calls l adds serves m pool fits calls are n pool (did.state pool put_first) (did.fits pool (ready_of_fits l m serves pool fits))
           (λ k none. did.others k (λ f table. none f (inr table)));
     }
 
@@ -107,10 +106,10 @@ reply_each : (m : Machine) (s : State) (calls : List Call) → length (replies_o
 reply_each m s [] = refl
 reply_each m s (call ∷ calls) = ap suc (reply_each m (step m s call).state calls)
 
-pub few_frames : {Lent : Type 0} (h after : Hierarchy Lent) (L level page count : ℕ) (replies : List Reply) → DoesChanges h (unmaps L level page count) replies after → length (frames_done replies) ≤ count
-few_frames h after L level page count replies does =
+pub few_frames : {Lent : Type 0} (h after : Hierarchy Lent) (level page count : ℕ) (replies : List Reply) → DoesChanges h (unmaps level page count) replies after → length (frames_done replies) ≤ count
+few_frames h after level page count replies does =
     let all = ap length (does.replies [] put_first) in
-    let each = reply_each (machine_of h.layout put_first) (state_in h.layout h.memory []) (unmaps L level page count) ∙ length-map-range_with_len (λ k. Unmap (path_at L level (page + k * span level))) 0 count in
+    let each = reply_each (machine_of h.layout put_first) (state_in h.layout h.memory []) (unmaps level page count) ∙ length-map-range_with_len (λ k. Unmap level (page + k * span level)) 0 count in
     let few = frames_few replies in
     omega (arith, all, each, few)
 
@@ -140,7 +139,7 @@ each_seen h supply r (suc k) answers after rest each = (
   each.1,
   each.2,
   each_seen h supply r k each.2 each.0 each.1 each.3,
-  next_seen each.0 each.1 (map_at h.layout.levels r k) each.2 answers after rest each.4,
+  next_seen each.0 each.1 (map_at r k) each.2 answers after rest each.4,
 )
 
 seen_maps : {Lent : Type 0} (h : Hierarchy Lent) (supply : List ℕ) (r : MapRange) (count : ℕ) (answers : List Reply) (after : Hierarchy Lent) (rest : List ℕ)
@@ -165,14 +164,14 @@ module _ {Lent : Type 0} (h after : Hierarchy Lent) (l : Layout) (m n : Memory) 
       (subst (λ k. DoesMaps (of h.layout h.memory) supply r count answers (of k after.memory) rest) does.layout (seen_maps h supply r count answers after rest does))))
 
 -- a pool that fitted before maps fits after them
-pub maps_keep : (l : Layout) (m n : Memory) (serves : ℕ → Bool) (pool : List ℕ) (r : MapRange) (count : ℕ) (answers : List Reply) (rest : List ℕ) → IsParentFlags l.added_flags → AllCalls l.levels (maps l.levels r count)
+pub maps_keep : (l : Layout) (m n : Memory) (serves : ℕ → Bool) (pool : List ℕ) (r : MapRange) (count : ℕ) (answers : List Reply) (rest : List ℕ) → IsParentFlags l.added_flags → AllCalls l.levels (maps r count)
     → PoolFits (of l m) serves pool → DoesMaps (of l m) pool r count answers (of l n) rest → KeepsPool l serves m pool n rest
 maps_keep l m n serves pool r count answers rest adds are fits does =
-    keeps_calls l adds serves m pool fits (maps l.levels r count) are n rest (does.state put_first) does.fits (λ k none. does.others k (λ f own. none f own.0))
+    keeps_calls l adds serves m pool fits (maps r count) are n rest (does.state put_first) does.fits (λ k none. does.others k (λ f own. none f own.0))
 
 -- what a map of a range returned, and what was told of it
 pub mapped : {Lent S V : Type 0} (h after : Hierarchy Lent) (l : Layout) (m n : Memory) → h.layout ≡ l → h.memory ≡ m → after.memory ≡ n → IsParentFlags l.added_flags
-    → (pool rest : Store) (r : MapRange) → ((k : ℕ) → AllCalls l.levels (maps l.levels r k)) → PoolFits (of l m) pool.serves pool.frames
+    → (pool rest : Store) (r : MapRange) → ((k : ℕ) → AllCalls l.levels (maps r k)) → PoolFits (of l m) pool.serves pool.frames
     → (page count : ℕ) (result : Result FlushRange (MapRangeErrorIn S V)) → MapsByResult h pool.frames r count result after rest.frames → IfOk result (λ flush. flush ≡ flush_range page count)
     → (status : ℕ) (done : Option ℕ) → status ≡ result_status (λ (error : MapRangeErrorIn S V). map_refusal error.why) result → IfOk result (λ flush. done ≡ Some flush.count) → IfErr result (λ error. done ≡ Some error.mapped.count)
     → (number : ℕ) × (done ≡ Some number) × Maps (of l m) pool r count (of l n) rest status number

@@ -181,7 +181,7 @@ range_maps_keep_others stay halves below own shared spaces lent after fit h memb
         by_list n within answers does =
             others stay halves below own shared spaces h member lent after fit some maps.room did.keeps
             (below shared one plain put_first gives (is_in own) (numbered lent.tables) (numbered after.tables) (stacked lent.array lent.free) (stacked after.array after.free)
-            (maps_of h.levels r n)
+            (maps_of r n)
             (maps_are h.levels (level_of_page_size request.page.size) (low_level request.page.size) (high_level request.page.size) levels r refl n)
             (fit.are_spaces.fits one member) (sym (does.state put_first))
-            (avoid_each (Avoids h.levels shared) (map_at h.levels r) 0 n (λ k less. avoid k (omega (arith, less, within)))))
+            (avoid_each (Avoids h.levels shared) (map_at r) 0 n (λ k less. avoid k (omega (arith, less, within)))))

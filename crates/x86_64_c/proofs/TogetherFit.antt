@@ -21,7 +21,6 @@ use Rattle.x86_64_spaces.specs.SpaceLayouts.{indices_of, space_layout, layouts_o
 use Rattle.x86_64_tables.specs.LentMemory.{numbered}
 use Rattle.x86_64_tables.specs.LentPool.{is_in, stacked}
 use Rattle.x86_64_c.specs.AddressSpaces.{IsInOrder, layout_given, layouts_given, shared_in, space_at, FitTogether, SpacesFit, EachMayBeUsed, RequestsKeepSpaces, RequestsOrNothingKeepSpaces, ChangesKeepSpaces, OthersStay, RequestsKeepOthers, RequestsOrNothingKeepOthers}
-use Rattle.x86_64.specs.Asked.{machine_call}
 use Rattle.x86_64.specs.Replies.{Reply}
 use Rattle.x86_64.specs.Runs.{AfterStep}
 use Rattle.x86_64_c.specs.Arguments.{bad_hierarchy}
@@ -133,7 +132,7 @@ changes_keep_spaces stay own shared spaces tables now array free fit h some memb
 
 module _ (stay : SpacesStay) (halves : SharedHalvesStay) (below : CallsKeepBelow) (own : List ℕ) (shared : ℕ → Bool) (spaces : List Layout) (h : Given) (member : In spaces (layout_given h))
     (lent after : Loan) (fit : FitTogether own shared spaces lent) (request : Request) (status : ℕ) (done : Executes own h lent request status after)
-    (is_call : IsCall h.levels (machine_call h.levels (request.call h.levels))) (avoids : Avoids h.levels shared (machine_call h.levels (request.call h.levels))) where
+    (is_call : IsCall h.levels (request.call h.levels)) (avoids : Avoids h.levels shared (request.call h.levels)) where
   kept_others : (wrong : Option ℕ) → wrong_pool_call h lent request ≡ wrong → FitTogether own shared spaces after × OthersStay spaces h.root (numbered lent.tables) (numbered after.tables)
   kept_others None good =
       let one = layout_given h in
@@ -143,7 +142,7 @@ module _ (stay : SpacesStay) (halves : SharedHalvesStay) (below : CallsKeepBelow
       let led = sym (ap (λ (x : AfterStep Reply). x.state) runs.step) in
       let fits = fit.are_spaces.fits one member in
       let kept_below = below shared one plain put_first gives (is_in own) (numbered lent.tables) (numbered after.tables) _ _
-      (machine_call h.levels (request.call h.levels) ∷ []) (is_call, tt) fits led (avoids, tt) in (
+      (request.call h.levels ∷ []) (is_call, tt) fits led (avoids, tt) in (
         kept stay own shared spaces h member lent after fit some done.room runs.keeps (λ i s. kept_below (i ∷ []) s),
         λ other i apart. (halves shared one other (given_is_mapping h some.1) some.0 (is_in own) (numbered lent.tables) (numbered after.tables) _ _ fits runs.keeps kept_below
             (fit.are_spaces.share one other member i apart)).1,

@@ -20,7 +20,6 @@ use Rattle.x86_64_spaces.specs.SpaceLayouts.{indices_of, HasSharedAlone}
 use Rattle.x86_64_tables.specs.FrameSegments.{are_in_order}
 use Rattle.x86_64_tables.specs.LentMemory.{numbered}
 use Rattle.x86_64_tables.specs.LentPool.{is_in, stacked}
-use Rattle.x86_64.specs.Asked.{machine_call}
 use Rattle.x86_64_c.specs.Calls.{Changes}
 use Rattle.x86_64_c.specs.Arguments.{unless, bad_hierarchy, hierarchy_in, places_given, wrong_segments}
 use Rattle.x86_64_c.specs.PoolCalls.{Loan, loan, Request, MayExecute, Executes, ExecutesOrNothing, bad_lent, bad_pool, pool_in}
@@ -201,7 +200,7 @@ OthersStay spaces root m n = (other : Layout) → In spaces other → root ≢ o
 abbrev pub RequestsKeepOthers : Type 0
 RequestsKeepOthers = (own : List ℕ) (shared : ℕ → Bool) (spaces : List Layout) (lent after : Loan) → FitTogether own shared spaces lent
     → (h : Given) → In spaces (layout_given h) → (request : Request) (status : ℕ) → Executes own h lent request status after
-    → IsCall h.levels (machine_call h.levels (request.call h.levels)) → Avoids h.levels shared (machine_call h.levels (request.call h.levels))
+    → IsCall h.levels (request.call h.levels) → Avoids h.levels shared (request.call h.levels)
     → FitTogether own shared spaces after × OthersStay spaces h.root (numbered lent.tables) (numbered after.tables)
 
 -- After a request on one of some address spaces that fit together, which touches nothing below a shared index and was executed or
@@ -209,7 +208,7 @@ RequestsKeepOthers = (own : List ℕ) (shared : ℕ → Bool) (spaces : List Lay
 abbrev pub RequestsOrNothingKeepOthers : Type 0
 RequestsOrNothingKeepOthers = (own : List ℕ) (shared : ℕ → Bool) (spaces : List Layout) (lent after : Loan) → FitTogether own shared spaces lent
     → (h : Given) → In spaces (layout_given h) → (request : Request) (status : ℕ) → ExecutesOrNothing own h lent request status after
-    → IsCall h.levels (machine_call h.levels (request.call h.levels)) → Avoids h.levels shared (machine_call h.levels (request.call h.levels))
+    → IsCall h.levels (request.call h.levels) → Avoids h.levels shared (request.call h.levels)
     → FitTogether own shared spaces after × OthersStay spaces h.root (numbered lent.tables) (numbered after.tables)
 
 -- After a map of a range in one of some address spaces that fit together, which touches nothing below a shared index, they fit
@@ -217,7 +216,7 @@ RequestsOrNothingKeepOthers = (own : List ℕ) (shared : ℕ → Bool) (spaces :
 abbrev pub RangeMapsKeepOthers : Type 0
 RangeMapsKeepOthers = (own : List ℕ) (shared : ℕ → Bool) (spaces : List Layout) (lent after : Loan) → FitTogether own shared spaces lent
     → (h : Given) → In spaces (layout_given h) → (request : MapRequest) (count was status done : ℕ) → MapsWith own h lent request count was status after done
-    → ((k : ℕ) → k < count → Avoids h.levels shared (map_at h.levels (range_asked h.levels request) k))
+    → ((k : ℕ) → k < count → Avoids h.levels shared (map_at (range_asked h.levels request) k))
     → FitTogether own shared spaces after × OthersStay spaces h.root (numbered lent.tables) (numbered after.tables)
 
 -- After unmaps or changes of flags of a range in one of some address spaces that fit together, which touch nothing below a shared

@@ -3,7 +3,6 @@ use Rattle.std.specs.Prelude.{◌≡◌, ℕ, ◌-◌, ◌%◌, ◌^◌, ◌==�
 use Rattle.std.specs.Option.{option_or}
 use Rattle.x86_64_model.specs.Hierarchy as mapper
 use Rattle.x86_64_model.specs.Memory.{Memory, Places}
-use Rattle.x86_64_model.specs.Path.{path_at}
 use Rattle.x86_64_model.specs.Position.{lower_half, position_count}
 use Rattle.x86_64_mappers.specs.Layouts.{owned_at}
 use Rattle.x86_64_tables.specs.FrameSegments.{are_in_order, segment_places}
@@ -113,10 +112,6 @@ wrong_page L page = unless (is_size page.size && starts_page L page.size page.st
 -- The level of the entries that map pages of a size: one for 4KiB, two for 2MiB, and three for 1GiB.
 abbrev pub level_of_page_size : (size : ℕ) → ℕ
 level_of_page_size size = cond (size == 0x1000) 1 (cond (size == 0x20_0000) 2 3)
-
--- The path from the root to the entry of a page, with L levels.
-abbrev pub path_of_page : (L : ℕ) → Page → List ℕ
-path_of_page L page = path_at L (level_of_page_size page.size) (position_of L page.start)
 
 -- The level of the entry that maps a page: one for 4KiB, two for 2MiB, and three for 1GiB.
 abbrev pub any_level : {L : Type 0} → AnyPage L → ℕ

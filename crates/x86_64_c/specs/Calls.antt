@@ -91,12 +91,11 @@ told_by (Refused (InvalidFrameAddress address)) = Some address
 told_by (Refused (PageAlreadyMapped frame)) = None
 told_by (Refused FrameAllocationFailed) = None
 
--- The page with this path was unmapped, or an unmap of it was refused, and this is the address that the answer names, if it names
--- one.
-abbrev pub TellsUnmap : (h : Hierarchy (Unit {0})) (page : List ℕ) (after : Hierarchy (Unit {0})) (status : ℕ) (address : Option ℕ) → Type 0
-TellsUnmap h page after s address = (answer : Answer) × Changes h (model.Unmap page) answer after s × (address ≡ told_by answer)
+-- The page of a level was unmapped, or an unmap of it was refused, and this is the address that the answer names, if it names one.
+abbrev pub TellsUnmap : (h : Hierarchy (Unit {0})) (level page : ℕ) (after : Hierarchy (Unit {0})) (status : ℕ) (address : Option ℕ) → Type 0
+TellsUnmap h level page after s address = (answer : Answer) × Changes h (model.Unmap level page) answer after s × (address ≡ told_by answer)
 
--- The page with this path was unmapped, or an unmap of it was refused. The address that the answer names was written, or nothing if
--- it names none.
-abbrev pub Unmaps : (h : Hierarchy (Unit {0})) (page : List ℕ) (after : Hierarchy (Unit {0})) (status before frame : ℕ) → Type 0
-Unmaps h page after s before frame = (answer : Answer) × Changes h (model.Unmap page) answer after s × (frame ≡ unwrap_or (told_by answer) before)
+-- The page of a level was unmapped, or an unmap of it was refused. The address that the answer names was written, or nothing if it
+-- names none.
+abbrev pub Unmaps : (h : Hierarchy (Unit {0})) (level page : ℕ) (after : Hierarchy (Unit {0})) (status before frame : ℕ) → Type 0
+Unmaps h level page after s before frame = (answer : Answer) × Changes h (model.Unmap level page) answer after s × (frame ≡ unwrap_or (told_by answer) before)

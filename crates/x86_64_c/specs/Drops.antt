@@ -1,6 +1,5 @@
 -- What the drop of a range of pages does: the pages are taken away, and then the empty tables are freed.
 use Rattle.std.specs.Prelude.{◌≡◌, ◌≤◌, ◌+◌, ℕ, List, length, Option, Some, None, unwrap_or}
-use Rattle.x86_64.specs.Asked.{CleanUpRange}
 use Rattle.x86_64_c.specs.Arguments.{hierarchy_in, position_of}
 use Rattle.x86_64_c.specs.PoolCalls.{Loan, RunsCall, bad_lent, pool_in, wrong_range}
 use Rattle.x86_64_c.specs.Status.{ok}
@@ -9,6 +8,7 @@ use Rattle.x86_64_c.specs.declared.arguments.Hierarchy.{Hierarchy as Given}
 use Rattle.x86_64_live.specs.DroppedRanges.{EndsAtPage}
 use Rattle.x86_64_live.specs.PageRanges.{AllWhole, ExchangesPages, HasNoPage, pages_between, reached}
 use Rattle.x86_64_live.specs.declared.ranges.RangeEnd.{RangeEnd}
+use Rattle.x86_64_model.specs.Call.{CleanUp}
 use Rattle.x86_64_model.specs.Entry.{used}
 use Rattle.x86_64_model.specs.Hierarchy.{◌laid_in◌, Hierarchy, paths}
 use Rattle.x86_64_model.specs.Memory.{Memory}
@@ -30,7 +30,7 @@ pub record DropsPages (h : Hierarchy (Unit {0})) (pool : Store) (first last : �
   pub between : Memory
   pub taken : ExchangesPages h.layout (λ _. 0) (pages_between h.layout.levels used (paths h) first (reached last end)) h.memory between
   -- From there on the call is that of a clean up of the whole range.
-  pub cleaned : RunsCall (h.layout laid_in between) pool (CleanUpRange first (last + 0xfff)) after rest ok
+  pub cleaned : RunsCall (h.layout laid_in between) pool (CleanUp first (last + 0xfff)) after rest ok
   -- So none of the pages is there any more: no entry on the way to a position up to where the range ends is that of a page.
   pub gone : HasNoPage h.layout.levels used (paths after) first (reached last end)
 

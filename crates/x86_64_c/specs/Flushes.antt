@@ -11,13 +11,13 @@ use Rattle.x86_64_c.specs.Status as status
 
 -- The number that callers in C have for the kind of a call of the model, or `None` if they can't make it.
 abbrev pub call_kind : Call → Option ℕ
-call_kind (MapTo q frame given) = None
-call_kind (MapToWithTableFlags q frame given parent_flags) = Some 0
+call_kind (MapTo level page frame given) = None
+call_kind (MapToWithTableFlags level page frame given parent_flags) = Some 0
 call_kind (IdentityMap level frame given) = None
-call_kind (Unmap q) = Some 1
-call_kind (UpdateFlags q given) = Some 2
-call_kind (SetFlags level q given) = Some 3
-call_kind (TranslatePage q) = None
+call_kind (Unmap level page) = Some 1
+call_kind (UpdateFlags level page given) = Some 2
+call_kind (SetFlags at level page given) = Some 3
+call_kind (TranslatePage level page) = None
 call_kind (Translate p) = None
 call_kind (TranslateAddress p) = None
 call_kind (CleanUp low high) = Some 4

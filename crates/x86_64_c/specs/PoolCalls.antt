@@ -1,11 +1,10 @@
 -- What calls that take frames from a pool or return frames to it do: maps and clean ups.
-use Rattle.std.specs.Prelude.{◌≡◌, ◌≢◌, ◌≤◌, ℕ, ◌+◌, true, ◌==◌, ◌&&◌, nat_le, cond, List, length, Option, Some, None, option_map}
+use Rattle.std.specs.Prelude.{◌≡◌, ◌≢◌, ◌≤◌, ℕ, ◌+◌, true, ◌&&◌, nat_le, List, length, Option, Some, None, option_map}
 use Rattle.std.specs.Option.{option_or}
+use Rattle.x86_64_model.specs.Call.{Call, CleanUp, MapToWithTableFlags}
 use Rattle.x86_64_model.specs.Hierarchy.{Hierarchy}
 use Rattle.x86_64_model.specs.Store.{Store, StoreFits, put_first, KeepsPool}
 use Rattle.x86_64_tables.specs.LentPool.{is_in, stacked}
-use Rattle.x86_64.specs.Asked as asked
-use Rattle.x86_64.specs.Asked.{MapperCall, PageCall}
 use Rattle.x86_64.specs.Replies.{Reply, changes_nothing}
 use Rattle.x86_64.specs.Runs.{LeavesFree, Stepped, machine_with, state_with, step_by}
 use Rattle.x86_64_c.specs.Calls.{reply_status}
@@ -19,29 +18,24 @@ use Rattle.x86_64_c.specs.declared.arguments.MapRequest.{MapRequest}
 
 -- A request of a caller: the call with a number of levels, and what is wrong with the arguments that say which call it is.
 pub record Request : Type 0 where
-  pub call : (L : ℕ) → MapperCall
+  pub call : (L : ℕ) → Call
   pub wrong : (L : ℕ) → Option ℕ
 
 -- What is wrong with a request to map a page, with L levels: the page, or else the frame.
 abbrev pub bad_map : (L : ℕ) → MapRequest → Option ℕ
 bad_map L request = option_or (wrong_page L request.page) (wrong_frame request.page.size request.frame)
 
--- The call on a page that an entry of the level maps: level one for 4KiB, two for 2MiB, and three for 1GiB.
-abbrev pub on_page : (level : ℕ) → PageCall → MapperCall
-on_page level call = cond (level == 1) (asked.Of4KiB call) (cond (level == 2) (asked.Of2MiB call) (asked.Of1GiB call))
-
--- The call of a mapper, with L levels, that a request to map a page asks for.
-abbrev pub map_asked : (L : ℕ) → MapRequest → MapperCall
-map_asked L request =
-    on_page (level_of_page_size request.page.size) (asked.MapToWithTableFlags (position_of L request.page.start) request.frame request.flags request.parent_flags)
+-- The call, with L levels, that a request to map a page asks for.
+abbrev pub map_asked : (L : ℕ) → MapRequest → Call
+map_asked L request = MapToWithTableFlags (level_of_page_size request.page.size) (position_of L request.page.start) request.frame request.flags request.parent_flags
 
 -- What is wrong with the first or the last 4KiB page of a range, with L levels.
 abbrev pub wrong_range : (L first last : ℕ) → Option ℕ
 wrong_range L first last = unless (starts_page L 4096 first && starts_page L 4096 last) status.bad_page
 
 -- The clean up of the 4KiB pages from the first to the last, inclusive, with L levels.
-abbrev pub clean_up_call : (L first last : ℕ) → MapperCall
-clean_up_call L first last = asked.CleanUpRange (position_of L first) (position_of L last + 0xfff)
+abbrev pub clean_up_call : (L first last : ℕ) → Call
+clean_up_call L first last = CleanUp (position_of L first) (position_of L last + 0xfff)
 
 -- The request to map a page.
 abbrev pub to_map : MapRequest → Request
@@ -84,7 +78,7 @@ pool_in own entries count = record { frames = stacked entries count; serves = is
 
 -- A call was executed as the machine does it, with the status of the reply. The hierarchy is valid again, and the rest of the pool
 -- fits it. The pool serves the same frames. If the reply says that nothing changed, no word did. Free frames keep their words, except those that came back.
-pub record RunsCall (h : Hierarchy (Unit {0})) (pool : Store) (call : MapperCall) (after : Hierarchy (Unit {0})) (rest : Store) (status : ℕ) : Type 0 where
+pub record RunsCall (h : Hierarchy (Unit {0})) (pool : Store) (call : Call) (after : Hierarchy (Unit {0})) (rest : Store) (status : ℕ) : Type 0 where
   pub reply : Reply
   pub step : Stepped h pool call reply after rest.frames
   pub status_is : status ≡ reply_status reply
@@ -118,7 +112,7 @@ pub record Executes (own : List ℕ) (h : Given) (lent : Loan) (request : Reques
 -- ---- calls that change nothing if they are refused
 
 -- The status of the machine's reply to a call, or `None` if a mapper never replies so.
-abbrev pub machine_status : (h : Hierarchy (Unit {0})) → (pool : Store) → MapperCall → Option ℕ
+abbrev pub machine_status : (h : Hierarchy (Unit {0})) → (pool : Store) → Call → Option ℕ
 machine_status h pool call = option_map reply_status (step_by (machine_with h pool) (state_with h pool) call).reply
 
 -- The status that a request has when it is executed: what is wrong with an argument, or the status of the machine's reply.

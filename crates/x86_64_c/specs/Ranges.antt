@@ -103,7 +103,7 @@ end_status done count = cond (done == count) ok more
 pub record UnmapsRange (h : Hierarchy (Unit {0})) (level page count : ℕ) (array : List ℕ) (after : Hierarchy (Unit {0})) (status : ℕ) (frames : List ℕ) (frame_count done : ℕ) : Type 0 where
   pub replies : List Reply
   pub most : done ≡ min count (length array)
-  pub changes : ChangesRange h (unmaps h.layout.levels level page done) replies after
+  pub changes : ChangesRange h (unmaps level page done) replies after
   pub taken : frames ≡ frames_done replies ++ drop (length (frames_done replies)) array
   pub number : frame_count ≡ length (frames_done replies)
   pub status_is : status ≡ end_status done count
@@ -112,7 +112,7 @@ pub record UnmapsRange (h : Hierarchy (Unit {0})) (level page count : ℕ) (arra
 -- the number of the others was written.
 pub record Updates (h : Hierarchy (Unit {0})) (level page flags count : ℕ) (after : Hierarchy (Unit {0})) (status changed : ℕ) : Type 0 where
   pub replies : List Reply
-  pub changes : ChangesRange h (updates h.layout.levels level page flags count) replies after
+  pub changes : ChangesRange h (updates level page flags count) replies after
   pub number : changed ≡ length (frames_done replies)
   pub status_is : status ≡ ok
 

@@ -1,10 +1,9 @@
 //! Calls that change one entry: unmaps and changes of flags.
-ghost use Rattle.std.specs.Prelude.{◌≡◌, ◌≤◌, ℕ, List, length, Option, Some, None};
+ghost use Rattle.std.specs.Prelude.{◌≡◌, ◌≤◌, ℕ, length, Option, Some, None};
 ghost use Rattle.x86_64_c.specs.Calls as calls;
 ghost use Rattle.x86_64_c.specs.Arguments as given;
 ghost use Rattle.x86_64_model.specs.Call.{UpdateFlags, SetFlags};
-ghost use Rattle.x86_64_model.specs.Hierarchy.{Hierarchy, Valid, allows, path_of};
-ghost use Rattle.x86_64_model.specs.Path.{path_at};
+ghost use Rattle.x86_64_model.specs.Hierarchy.{Hierarchy, Valid, allows};
 ghost use Rattle.x86_64_model.specs.Refusal.{Refused};
 ghost use Rattle.x86_64_tables.specs.MapperAnswers.{unmap_answer, refusal_of_unmap, flags_answer};
 ghost use Rattle.x86_64_tables.specs.PageTableFlags.{bits_of};
@@ -29,8 +28,8 @@ pub trait EntryChange {
     /// What is wrong with the change, for a number of levels of tables.
     ghost wrong: { Self → (levels : ℕ) → Option ℕ };
 
-    /// What the change does to a hierarchy, with the path of the page, and what it returns.
-    ghost makes: { Self → Hierarchy (Unit {0}) → (page : List ℕ) → (after : Hierarchy (Unit {0}))
+    /// What the change does to a hierarchy, with the level of the page's entry and its position, and what it returns.
+    ghost makes: { Self → Hierarchy (Unit {0}) → (level page : ℕ) → (after : Hierarchy (Unit {0}))
         → (out : Self.Out) → Type 0 };
 
     /// Returns what is wrong with the change, for a number of levels of tables.
@@ -46,9 +45,8 @@ pub trait EntryChange {
     ) -> Self::Out
         requires good { wrong self.now L.LEVELS ≡ None }
         requires valid { Valid (given.at P.places L.LEVELS located (T.tables memory.old)) }
-        ensures makes { makes self.now (given.at P.places L.LEVELS located (T.tables memory.old))
-            (path_at L.LEVELS S.LEVEL page) (given.at P.places L.LEVELS located (T.tables memory.new))
-            result }
+        ensures makes { makes self.now (given.at P.places L.LEVELS located (T.tables memory.old)) S.LEVEL page
+            (given.at P.places L.LEVELS located (T.tables memory.new)) result }
         ensures lent { T.lent memory.new ≡ T.lent memory.old };
 }
 
@@ -61,7 +59,7 @@ pub struct OnPage<'a, C> {
 
 impl<'a, C: EntryChange> Operation for OnPage<'a, C> {
     ghost use Rattle.std.specs.Option.{option_or};
-    ghost use Rattle.x86_64_c.specs.Arguments.{wrong_page, path_of_page};
+    ghost use Rattle.x86_64_c.specs.Arguments.{wrong_page, level_of_page_size, position_of};
     ghost use Rattle.x86_64_model.specs.Hierarchy.{Valid};
 
     type Out = C::Out;
@@ -74,7 +72,8 @@ impl<'a, C: EntryChange> Operation for OnPage<'a, C> {
     ghost may = { λ on h array. Valid h };
 
     ghost does = { λ on h array after left out.
-        C.makes on.change.now h (path_of_page h.layout.levels on.page.now) after out };
+        C.makes on.change.now h (level_of_page_size on.page.now.size)
+        (position_of h.layout.levels on.page.now.start) after out };
 
     fn execute<L: LevelCount, T: TableMemory, P: PageTableFrameMapping + Copy>(
         &self,
@@ -113,8 +112,8 @@ pub extern "C" fn x64_unmap(
     ensures bad { (status : ℕ) → calls.bad_on_page hierarchy.now (length tables.old) page.now ≡ Some status
         → (result ≡ status) × (tables.new ≡ tables.old) × (frame.new ≡ frame.old) }
     ensures unmaps { calls.bad_on_page hierarchy.now (length tables.old) page.now ≡ None
-        → calls.Unmaps (given.hierarchy_in hierarchy.now tables.old)
-        (given.path_of_page hierarchy.now.levels page.now)
+        → calls.Unmaps (given.hierarchy_in hierarchy.now tables.old) (given.level_of_page_size page.now.size)
+        (given.position_of hierarchy.now.levels page.now.start)
         (given.hierarchy_in hierarchy.now tables.new) result frame.old frame.new }
 {
     let on = OnPage {
@@ -152,7 +151,8 @@ impl EntryChange for Unmap {
 
     ghost wrong = { λ _ levels. None };
 
-    ghost makes = { λ _ h page after told. calls.TellsUnmap h page after told.status told.address };
+    ghost makes = { λ _ h level page after told.
+        calls.TellsUnmap h level page after told.status told.address };
 
     fn wrong_with(&self, _levels: u64) -> Option<u32> {
         None
@@ -230,7 +230,8 @@ pub extern "C" fn x64_update_flags(
         → (result ≡ status) × (tables.new ≡ tables.old) }
     ensures updates { calls.bad_on_page hierarchy.now (length tables.old) page.now ≡ None
         → calls.MayChange (given.hierarchy_in hierarchy.now tables.old)
-        (UpdateFlags (given.path_of_page hierarchy.now.levels page.now) flags)
+        (UpdateFlags (given.level_of_page_size page.now.size)
+        (given.position_of hierarchy.now.levels page.now.start) flags)
         (given.hierarchy_in hierarchy.now tables.new) result }
 {
     let flags = PageTableFlags::from_bits_retain(flags);
@@ -260,8 +261,8 @@ impl EntryChange for FlagsOfPage {
 
     ghost wrong = { λ _ levels. None };
 
-    ghost makes = { λ new h page after status.
-        calls.MayChange h (UpdateFlags page (bits_of new.flags)) after status };
+    ghost makes = { λ new h level page after status.
+        calls.MayChange h (UpdateFlags level page (bits_of new.flags)) after status };
 
     fn wrong_with(&self, _levels: u64) -> Option<u32> {
         None
@@ -319,7 +320,8 @@ pub extern "C" fn x64_set_table_flags(
         (result ≡ status) × (tables.new ≡ tables.old) }
     ensures sets { calls.bad_on_table hierarchy.now (length tables.old) level page.now ≡ None
         → calls.MayChange (given.hierarchy_in hierarchy.now tables.old)
-        (SetFlags level (given.path_of_page hierarchy.now.levels page.now) flags)
+        (SetFlags level (given.level_of_page_size page.now.size)
+        (given.position_of hierarchy.now.levels page.now.start) flags)
         (given.hierarchy_in hierarchy.now tables.new) result }
 {
     let flags = PageTableFlags::from_bits_retain(flags);
@@ -351,8 +353,8 @@ impl EntryChange for FlagsOfTable {
 
     ghost wrong = { λ new levels. unless (calls.is_table_level levels new.level) bad_levels };
 
-    ghost makes = { λ new h page after status.
-        calls.MayChange h (SetFlags new.level page (bits_of new.flags)) after status };
+    ghost makes = { λ new h level page after status.
+        calls.MayChange h (SetFlags new.level level page (bits_of new.flags)) after status };
 
     fn wrong_with(&self, levels: u64) -> Option<u32> {
         if self.level < 2 || levels < self.level {
@@ -389,7 +391,7 @@ fn may_set<S: PageSize, L: LevelCount, M: TableAccess + TablesIn<L>>(
     requires high { level ≤ L.LEVELS }
     requires valid { Valid (M.hierarchy mapper.now) }
     ensures { result ≡ allows (M.hierarchy mapper.now)
-        (SetFlags level (path_of (M.hierarchy mapper.now) S.LEVEL page) (bits_of flags)) }
+        (SetFlags level S.LEVEL page (bits_of flags)) }
 {
     if level <= 3 {
         return calls::table_flags_allowed(mapper, page, level, flags);

@@ -136,11 +136,9 @@ impl<'a> WholeMap<'a> {
 
 impl<S: PageSize, L: LevelCount> PoolStep<L> for PageMap<S, L> {
     ghost use Rattle.std.specs.Prelude.{false};
-    ghost use Rattle.x86_64.specs.Asked.{MapToWithTableFlags};
-    ghost use Rattle.x86_64_c.specs.PoolCalls.{on_page};
     ghost use Rattle.x86_64_c.specs.private.OrNothing.{RunsIfOk, is_refusal};
     ghost use Rattle.x86_64_c.specs.private.PoolLaws.{own_runs_if_ok};
-    ghost use Rattle.x86_64_tables.specs.PageTableFlags.{bits_of};
+    ghost use Rattle.x86_64_live.specs.MapsOrNothing.{call_for};
 
     type Out = u32;
 
@@ -148,9 +146,8 @@ impl<S: PageSize, L: LevelCount> PoolStep<L> for PageMap<S, L> {
 
     ghost refused = { is_refusal };
 
-    ghost does = { λ map h pool after rest status. RunsIfOk h pool (on_page S.LEVEL
-        (MapToWithTableFlags map.page map.frame (bits_of map.flags) (bits_of map.parent_flags)))
-        after rest status };
+    ghost does = { λ map h pool after rest status.
+        RunsIfOk h pool (call_for S.LEVEL map) after rest status };
 
     fn take<T: TableMemory, P: PageTableFrameMapping + Copy, F: FrameStore>(
         &self,

@@ -150,9 +150,9 @@ pub struct MapTo<S: PageSize, L: LevelCount> {
 
 impl<S: PageSize, L: LevelCount> PoolStep<L> for MapTo<S, L> {
     ghost use Rattle.std.specs.Prelude.{false};
-    ghost use Rattle.x86_64.specs.Asked.{MapToWithTableFlags};
-    ghost use Rattle.x86_64_c.specs.PoolCalls.{RunsCall, on_page};
+    ghost use Rattle.x86_64_c.specs.PoolCalls.{RunsCall};
     ghost use Rattle.x86_64_c.specs.private.PoolLaws.{own_runs};
+    ghost use Rattle.x86_64_model.specs.Call.{MapToWithTableFlags};
     ghost use Rattle.x86_64_tables.specs.PageTableFlags.{bits_of};
 
     type Out = u32;
@@ -161,9 +161,8 @@ impl<S: PageSize, L: LevelCount> PoolStep<L> for MapTo<S, L> {
 
     ghost refused = { λ _. false };
 
-    ghost does = { λ map h pool after rest status. RunsCall h pool (on_page S.LEVEL
-        (MapToWithTableFlags map.page map.frame (bits_of map.flags) (bits_of map.parent_flags)))
-        after rest status };
+    ghost does = { λ map h pool after rest status. RunsCall h pool (MapToWithTableFlags S.LEVEL
+        map.page map.frame (bits_of map.flags) (bits_of map.parent_flags)) after rest status };
 
     fn take<T: TableMemory, P: PageTableFrameMapping + Copy, F: FrameStore>(
         &self,
@@ -298,9 +297,9 @@ pub struct PagesTo<L: LevelCount> {
 
 impl<L: LevelCount> PoolStep<L> for PagesTo<L> {
     ghost use Rattle.std.specs.Prelude.{◌+◌, false};
-    ghost use Rattle.x86_64.specs.Asked.{CleanUpRange};
     ghost use Rattle.x86_64_c.specs.PoolCalls.{RunsCall};
     ghost use Rattle.x86_64_c.specs.private.PoolLaws.{own_runs};
+    ghost use Rattle.x86_64_model.specs.Call as machine;
 
     type Out = u32;
 
@@ -309,7 +308,7 @@ impl<L: LevelCount> PoolStep<L> for PagesTo<L> {
     ghost refused = { λ _. false };
 
     ghost does = { λ pages h pool after rest status.
-        RunsCall h pool (CleanUpRange pages.first (pages.last + 0xfff)) after rest status };
+        RunsCall h pool (machine.CleanUp pages.first (pages.last + 0xfff)) after rest status };
 
     fn take<T: TableMemory, P: PageTableFrameMapping + Copy, F: FrameStore>(
         &self,

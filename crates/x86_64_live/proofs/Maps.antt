@@ -6,11 +6,11 @@ use Rattle.x86_64_live.specs.WouldAnswer.{WouldAnswer}
 use Rattle.x86_64_live.specs.declared.map.PageMap.{PageMap}
 use Rattle.x86_64_mappers.specs.Supplies.{MapsFrom, Supply}
 use Rattle.x86_64_model.specs.Allowed.{refuses}
+use Rattle.x86_64_model.specs.Call.{Call}
 use Rattle.x86_64_model.specs.Layout.{Layout}
 use Rattle.x86_64_model.specs.MapRule.{AfterMap}
 use Rattle.x86_64_model.specs.Hierarchy.{◌laid_in◌, Hierarchy, paths}
 use Rattle.x86_64_model.specs.Memory.{Memory}
-use Rattle.x86_64_model.specs.PageCalls.{PageCall}
 use Rattle.x86_64_model.specs.Refusal.{Answer, Done}
 use Rattle.x86_64_tables.specs.MapperAnswers.{map_answer}
 use Rattle.x86_64_tables.specs.declared.errors.MapToError.{MapToError}
@@ -25,7 +25,7 @@ module _ {Lent S L : Type 0} (h : Hierarchy Lent) (supply : Supply) (level : ℕ
   told : (answer : Answer) → Foretold answer → rule.answer ≡ answer
   told answer foretold = foretold supply.frames _ _ refl
 
-  module _ (answer : Answer) (after : Hierarchy Lent) (rest : Supply) (maps : MapsFrom h supply level (call_for map) answer after rest) where
+  module _ (answer : Answer) (after : Hierarchy Lent) (rest : Supply) (maps : MapsFrom h supply (call_for level map) answer after rest) where
     by_the_rule : rule ≡ record { paths = paths after; supply = rest.frames; answer = answer }
     by_the_rule = same_Some _ _ maps.map.outcome
 
@@ -48,15 +48,15 @@ no_error frame (Err why) P is = let t = is in cc
 
 module _ {Lent : Type 0} (h : Hierarchy Lent) (l : Layout) (m : Memory) (layout : h.layout ≡ l) (memory : h.memory ≡ m) where
   -- what the mapper did, of the words alone
-  pub in_words : (after : Hierarchy Lent) (n : Memory) → after.memory ≡ n → (supply rest : Supply) (level : ℕ) (call : PageCall) (answer : Answer)
-      → MapsFrom h supply level call answer after rest → MapsFrom (l laid_in m) supply level call answer (l laid_in n) rest
-  in_words after n left supply rest level call answer maps =
-      subst (λ l. MapsFrom (l laid_in m) supply level call answer (l laid_in n) rest) layout
-      (subst (λ m. MapsFrom (h.layout laid_in m) supply level call answer (h.layout laid_in n) rest) memory
-      (subst (λ n. MapsFrom (h.layout laid_in h.memory) supply level call answer (h.layout laid_in n) rest) left
-      (subst (λ k. MapsFrom (h.layout laid_in h.memory) supply level call answer (k laid_in after.memory) rest) maps.map.layout seen)))
+  pub in_words : (after : Hierarchy Lent) (n : Memory) → after.memory ≡ n → (supply rest : Supply) (call : Call) (answer : Answer)
+      → MapsFrom h supply call answer after rest → MapsFrom (l laid_in m) supply call answer (l laid_in n) rest
+  in_words after n left supply rest call answer maps =
+      subst (λ l. MapsFrom (l laid_in m) supply call answer (l laid_in n) rest) layout
+      (subst (λ m. MapsFrom (h.layout laid_in m) supply call answer (h.layout laid_in n) rest) memory
+      (subst (λ n. MapsFrom (h.layout laid_in h.memory) supply call answer (h.layout laid_in n) rest) left
+      (subst (λ k. MapsFrom (h.layout laid_in h.memory) supply call answer (k laid_in after.memory) rest) maps.map.layout seen)))
     where
-      seen : MapsFrom (h.layout laid_in h.memory) supply level call answer (after.layout laid_in after.memory) rest
+      seen : MapsFrom (h.layout laid_in h.memory) supply call answer (after.layout laid_in after.memory) rest
       seen = record {
         map = record {
           outcome = maps.map.outcome;
@@ -71,10 +71,10 @@ module _ {Lent : Type 0} (h : Hierarchy Lent) (l : Layout) (m : Memory) (layout 
 
   -- a map is done if the look found no reason against it
   pub done_after_look : {S L E X : Type 0} (after : Hierarchy Lent) (n : Memory) → after.memory ≡ n → (supply rest : Supply) (free : ℕ) → length supply.frames ≡ free → (level : ℕ) (map : PageMap S L) (result : Result X (MapToError E))
-      → WouldAnswer (l laid_in m) level map.page map.frame free (Done map.frame) → MapsFrom h supply level (call_for map) (map_answer map.frame result) after rest
+      → WouldAnswer (l laid_in m) level map.page map.frame free (Done map.frame) → MapsFrom h supply (call_for level map) (map_answer map.frame result) after rest
       → MapsOrNothing (l laid_in m) supply level map (map_answer map.frame result) (l laid_in n) rest × ((P : Type 0) → OnErr result P)
   done_after_look after n left supply rest free count level map result foretold maps =
-      let here = in_words after n left supply rest level (call_for map) (map_answer map.frame result) maps in
+      let here = in_words after n left supply rest (call_for level map) (map_answer map.frame result) maps in
       let known = subst (λ n. WouldAnswer (l laid_in m) level map.page map.frame n (Done map.frame)) (sym count) foretold in (
         done_map (l laid_in m) supply level map (map_answer map.frame result) (l laid_in n) rest here known,
         λ P. no_error map.frame result P (is_done (l laid_in m) supply level map (map_answer map.frame result) (l laid_in n) rest here known),

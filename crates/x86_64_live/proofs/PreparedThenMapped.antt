@@ -147,7 +147,7 @@ empty_entry L page some = let long : length (path_at L 1 page) ≡ L = length_ta
 pub small_preparations_are_steps : SmallPreparationsAreSteps
 unfolding do_call
 small_preparations_are_steps h after supply rest page more fits some prepares may take_back =
-    ap (λ b. let a : AfterCall = cond b (do_call (machine_of h.layout take_back) (state_of h supply.frames) (empty_map h page more)) (only_reply (state_of h supply.frames) NotAllowed) in a.state) may
+    ap (λ b. let a : AfterCall = cond b (do_call (machine_of h.layout take_back) (state_of h supply.frames) (empty_map page more)) (only_reply (state_of h supply.frames) NotAllowed) in a.state) may
     ∙ ap (λ e. state h after supply rest 1 page more fits prepares (map_rule (paths h) supply.frames more h.layout.added_flags (parents (path_of h 1 page)) (path_of h 1 page) e 0)) (empty_entry h.layout.levels page some)
     ∙ ap (state h after supply rest 1 page more fits prepares) (by_parents h after supply rest 1 page more fits prepares 0 0) ∙ nothing_written h after supply rest 1 page more fits prepares
 

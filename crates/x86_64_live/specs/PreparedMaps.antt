@@ -18,15 +18,15 @@ PreparedMapsAreMaps = (h after : Hierarchy (Unit {0})) (supply rest : Supply) (l
 
 -- The call that maps the 4KiB page at a position to frame 0 without flags (a position is an address counted without the
 -- non-canonical gap). The entry that it writes is 0.
-abbrev pub empty_map : Hierarchy (Unit {0}) → (page parent_flags : ℕ) → Call
-empty_map h page more = MapToWithTableFlags (path_of h 1 page) 0 0 more
+abbrev pub empty_map : (page parent_flags : ℕ) → Call
+empty_map page more = MapToWithTableFlags 1 page 0 0 more
 
 -- If a page of 4KiB was prepared, the machine's step of this call, if it is allowed, leaves what the preparation left. It is refused if
 -- the page's entry is used, and otherwise done.
 abbrev pub SmallPreparationsAreSteps : Type 0
 SmallPreparationsAreSteps = (h after : Hierarchy (Unit {0})) (supply rest : Supply) (page more : ℕ) → SupplyFits h supply.frames → 0 < h.layout.levels → Prepares h supply 1 page more None after rest
-    → allows h (empty_map h page more) ≡ true → (take_back : List ℕ → ℕ → List ℕ)
-    → (step (machine_of h.layout take_back) (state_of h supply.frames) (empty_map h page more)).state ≡ state_of after rest.frames
+    → allows h (empty_map page more) ≡ true → (take_back : List ℕ → ℕ → List ℕ)
+    → (step (machine_of h.layout take_back) (state_of h supply.frames) (empty_map page more)).state ≡ state_of after rest.frames
 
 -- A used entry that has the parent flags stays, for example one of the root that address spaces share.
 abbrev pub FlaggedEntriesStay : Type 0

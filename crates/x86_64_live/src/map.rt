@@ -2,10 +2,8 @@
 ghost use Rattle.std.specs.Prelude.{◌≡◌, length, IfOk, OnErr};
 ghost use Rattle.x86_64_live.specs.MapsOrNothing.{MapsOrNothing, call_for};
 ghost use Rattle.x86_64_mappers.specs.Layouts.{direct_at};
-ghost use Rattle.x86_64_mappers.specs.PageAnswers.{allows_call};
 ghost use Rattle.x86_64_mappers.specs.Supplies.{supply_of};
-ghost use Rattle.x86_64_model.specs.Hierarchy.{◌laid_in◌, Valid};
-ghost use Rattle.x86_64_model.specs.PageCalls.{MayAskMap};
+ghost use Rattle.x86_64_model.specs.Hierarchy.{◌laid_in◌, allows, MayMap, Valid};
 ghost use Rattle.x86_64_tables.specs.MapperAnswers.{map_answer};
 
 use crate::look::would_map;
@@ -45,8 +43,8 @@ pub fn may_map<S: PageSize, L: LevelCount, T: TableMemory, P: PageTableFrameMapp
 ) -> bool
     requires { Valid (direct_at L.LEVELS (P.places mapping) root laid_in T.tables memory.old) }
     ensures answer { result
-        ≡ allows_call (direct_at L.LEVELS (P.places mapping) root laid_in T.tables memory.old) S.LEVEL
-        (call_for map) }
+        ≡ allows (direct_at L.LEVELS (P.places mapping) root laid_in T.tables memory.old)
+        (call_for S.LEVEL map) }
     ensures kept { T.tables memory.new ≡ T.tables memory.old }
     ensures lent { T.lent memory.new ≡ T.lent memory.old }
 {
@@ -80,8 +78,8 @@ pub fn map_or_nothing<
     frame_allocator: &mut A,
     free_frames: usize,
 ) -> Result<MapperFlushIn<S, L>, MapToError<S>>
-    requires may { MayAskMap (direct_at L.LEVELS (P.places mapping) root laid_in T.tables memory.old)
-        (A.supply frame_allocator.old) S.LEVEL (call_for map) }
+    requires may { MayMap (direct_at L.LEVELS (P.places mapping) root laid_in T.tables memory.old)
+        (A.supply frame_allocator.old) (call_for S.LEVEL map) }
     requires count { length (A.supply frame_allocator.old) ≡ free_frames }
     ensures maps { let layout = direct_at L.LEVELS (P.places mapping) root in
         MapsOrNothing (layout laid_in T.tables memory.old) (supply_of A.FrameAllocator frame_allocator.old)

@@ -5,8 +5,8 @@ ghost use Rattle.x86_64_mappers.specs.Layouts.{direct_at};
 ghost use Rattle.x86_64_mappers.specs.PageAnswers.{allows_page};
 ghost use Rattle.x86_64_mappers.specs.Supplies.{supply_of};
 ghost use Rattle.x86_64_mappers.specs.TablesAbove.{tables_refusal};
-ghost use Rattle.x86_64_model.specs.Hierarchy.{◌laid_in◌, Valid};
-ghost use Rattle.x86_64_model.specs.PageCalls.{MayAskMap, MapToWithTableFlags};
+ghost use Rattle.x86_64_model.specs.Call.{MapToWithTableFlags};
+ghost use Rattle.x86_64_model.specs.Hierarchy.{◌laid_in◌, MayMap, Valid};
 ghost use Rattle.x86_64_tables.specs.PageTableFlags.{bits_of};
 
 use crate::look::would_prepare;
@@ -69,8 +69,8 @@ pub fn prepare<
     frame_allocator: &mut A,
     free_frames: usize,
 ) -> Result<(), MapToError<S>>
-    requires may { MayAskMap (direct_at L.LEVELS (P.places mapping) root laid_in T.tables memory.old)
-        (A.supply frame_allocator.old) S.LEVEL (MapToWithTableFlags page 0 0 (bits_of parent_flags)) }
+    requires may { MayMap (direct_at L.LEVELS (P.places mapping) root laid_in T.tables memory.old)
+        (A.supply frame_allocator.old) (MapToWithTableFlags S.LEVEL page 0 0 (bits_of parent_flags)) }
     requires count { length (A.supply frame_allocator.old) ≡ free_frames }
     ensures prepares { let layout = direct_at L.LEVELS (P.places mapping) root in
         Prepares (layout laid_in T.tables memory.old) (supply_of A.FrameAllocator frame_allocator.old)

@@ -2,6 +2,7 @@
 use Rattle.std.specs.Prelude.{◌≡◌, ℕ, Bool, List, Option, Some, None, IfSome, Result, Ok, Err, IfErr, OnOk, refl}
 use Rattle.std.proofs.Common.{ap}
 use Rattle.std.specs.Borrow.{GName}
+use Rattle.x86_64_model.specs.Call.{Call}
 use Rattle.x86_64_model.specs.Layout.{Layout}
 use Rattle.x86_64_model.specs.Hierarchy.{Hierarchy}
 use Rattle.x86_64_model.specs.Memory.{Memory}
@@ -13,7 +14,6 @@ use Rattle.x86_64_spaces.specs.declared.space.Space.{Space}
 use Rattle.x86_64_spaces.specs.SpaceCalls.{TakesFirst, IsMade, IsGivenUp, IsReason}
 use Rattle.x86_64_tables.specs.LentPool.{is_in, served_by}
 use Rattle.x86_64_tables.proofs.LentPools.{fits_own, fits_served}
-use Rattle.x86_64.specs.Asked.{MapperCall}
 use Rattle.x86_64_c.specs.AddressSpaces.{space_at}
 use Rattle.x86_64_c.specs.PoolCalls.{RunsCall}
 use Rattle.x86_64_c.specs.Preparations.{PreparesPage}
@@ -24,7 +24,7 @@ use Rattle.x86_64_c.specs.private.Pools.{stack}
 use Rattle.x86_64_c.specs.private.RangeMaps.{TellsMaps}
 
 module _ (own : List ℕ) (array count : GName) {serves : ℕ → Bool} (same : serves ≡ served_by own array count) where
-  pub own_runs : (h after : Hierarchy (Unit {0})) (pool rest : List ℕ) (call : MapperCall) (status : ℕ)
+  pub own_runs : (h after : Hierarchy (Unit {0})) (pool rest : List ℕ) (call : Call) (status : ℕ)
       → RunsCall h (stack serves pool) call after (stack serves rest) status → RunsCall h (stack (is_in own) pool) call after (stack (is_in own) rest) status
   own_runs h after pool rest call status runs = record {
     reply = runs.reply;
@@ -36,7 +36,7 @@ module _ (own : List ℕ) (array count : GName) {serves : ℕ → Bool} (same : 
     free = runs.free;
   }
 
-  pub own_runs_if_ok : (h after : Hierarchy (Unit {0})) (pool rest : List ℕ) (call : MapperCall) (status : ℕ)
+  pub own_runs_if_ok : (h after : Hierarchy (Unit {0})) (pool rest : List ℕ) (call : Call) (status : ℕ)
       → RunsIfOk h (stack serves pool) call after (stack serves rest) status → RunsIfOk h (stack (is_in own) pool) call after (stack (is_in own) rest) status
   own_runs_if_ok h after pool rest call status runs = record {
     status_is = runs.status_is;

@@ -15,14 +15,14 @@ returns-clause-unmaps g c =
     let layout = direct_at L (g.P.PageTableFrameMapping.places c.args.located.mapping) c.args.located.root in
     let most = c.min-most.result in
     let does = c.unmap_range.ensures.does in
-    let few = few_frames _ _ _ g.S.PageSize.LEVEL c.args.page most does.0 does.1 in
+    let few = few_frames _ _ g.S.PageSize.LEVEL c.args.page most does.0 does.1 in
     let within : most ≤ length c.args.frames.now = search rules in
     let sink = does.2 ∙ takes_all _ (frames_done does.0) refl (omega (arith, few, within)) in
     record {
       replies = does.0;
       most = search rules;
       changes = changes_each _ _ layout (g.T.TableMemory.tables c.args.memory.now) _ c.new-mapper.ensures.layout c.new-mapper.ensures.memory (search rules) plain
-          (λ L. unmaps L g.S.PageSize.LEVEL c.args.page most) does.0 (unmaps_are L g.S.PageSize.LEVEL g.S.PageSize.low g.S.PageSize.high g.L.LevelCount.at_least_four c.args.page most) does.1;
+          (unmaps g.S.PageSize.LEVEL c.args.page most) does.0 (unmaps_are L g.S.PageSize.LEVEL g.S.PageSize.low g.S.PageSize.high g.L.LevelCount.at_least_four c.args.page most) does.1;
       taken = let array = ap (λ (a : FrameArray). a.frames.now) sink in search rules;
       number = ap (λ (a : FrameArray). a.count) sink;
       status_is = refl;

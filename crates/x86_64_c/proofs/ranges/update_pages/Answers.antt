@@ -19,7 +19,7 @@ returns-clause-updates g c =
         record {
           replies = does.0;
           changes = changes_each _ _ layout (g.T.TableMemory.tables c.args.memory.now) _ c.new-mapper.ensures.layout c.new-mapper.ensures.memory (search rules) plain
-              (λ L. updates L g.S.PageSize.LEVEL c.args.page given c.args.count) does.0
+              (updates g.S.PageSize.LEVEL c.args.page given c.args.count) does.0
               (updates_are L g.S.PageSize.LEVEL g.S.PageSize.low g.S.PageSize.high g.L.LevelCount.at_least_four c.args.page given c.args.count) does.1;
           number = does.2;
           status_is = refl;

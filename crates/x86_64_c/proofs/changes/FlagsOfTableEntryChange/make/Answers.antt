@@ -1,22 +1,21 @@
 use Rattle.std.proofs.Common.{rules}
 use Rattle.x86_64_model.specs.Call.{SetFlags}
-use Rattle.x86_64_model.specs.Path.{path_at}
 use Rattle.x86_64_mappers.specs.Layouts.{direct_at}
 use Rattle.x86_64_tables.specs.MapperAnswers.{flags_answer}
 use Rattle.x86_64_tables.specs.PageTableFlags.{bits_of}
-use Rattle.x86_64_c.proofs.EntryChanges.{changes, plain, is_page}
+use Rattle.x86_64_c.proofs.EntryChanges.{changes, is_page_level, plain}
 use Rattle.x86_64_c.proofs.changes.FlagsOfTableEntryChange.make.Goals as goal
 
 pub returns-clause-makes : goal.returns-clause-makes
 returns-clause-makes g c =
     let L = g.L.LevelCount.LEVELS in
     let layout = direct_at L (g.P.PageTableFrameMapping.places c.args.located.mapping) c.args.located.root in
-    let page = is_page L g.L.LevelCount.at_least_four g.S.PageSize.LEVEL g.S.PageSize.low g.S.PageSize.high c.args.page in (
+    let is = is_page_level L g.L.LevelCount.at_least_four g.S.PageSize.LEVEL g.S.PageSize.low g.S.PageSize.high in (
       λ refused. let may = c.if-not-may_set.ensures in absurd (search rules),
       λ may. (
         flags_answer _ c.set_table_flags-set.result,
         changes _ _ layout (g.T.TableMemory.tables c.args.memory.now) _ c.new-mapper.ensures.layout c.new-mapper.ensures.memory (search rules)
-            (SetFlags c.args.self.now.level (path_at L g.S.PageSize.LEVEL c.args.page) (bits_of c.args.self.now.flags)) _ c.set_status.result plain (search rules, search rules, page) may
+            (SetFlags c.args.self.now.level g.S.PageSize.LEVEL c.args.page (bits_of c.args.self.now.flags)) _ c.set_status.result plain (search rules, search rules, is) may
             c.set_table_flags-set.ensures (c.set_status.ensures _),
       ),
     )

@@ -1,6 +1,5 @@
 use Rattle.std.proofs.Common.{refl, sym, ap, ◌∙◌}
 use Rattle.x86_64_live.specs.MapsOrNothing.{call_for}
-use Rattle.x86_64_model.specs.PageCalls.{page_call}
 use Rattle.x86_64_model.proofs.Lemmas.Machines.Giving.{giving_from}
 use Rattle.x86_64_mappers.specs.Layouts.{direct_at}
 use Rattle.x86_64_tables.specs.PageTableFlags.{bits_of}
@@ -17,7 +16,7 @@ map_or_nothing-mapped-requires-clause-may g c =
     let l = direct_at g.L.LevelCount.LEVELS (g.P.PageTableFrameMapping.places c.args.located.mapping) c.args.located.root in
     record {
       fits = supply_over l l _ _ refl c.may_map.ensures.kept _ _ c.requires.fits;
-      allowed = seen_allows l l _ _ refl c.may_map.ensures.kept (λ k. page_call k g.S.PageSize.LEVEL (call_for c.args.self.now)) ∙ sym c.may_map.ensures.answer ∙ c.if-not-may_map.false;
+      allowed = seen_allows l l _ _ refl c.may_map.ensures.kept (call_for g.S.PageSize.LEVEL c.args.self.now) ∙ sym c.may_map.ensures.answer ∙ c.if-not-may_map.false;
     }
 
 pub returns-then-not-may_map-clause-does : goal.returns-then-not-may_map-clause-does
@@ -25,7 +24,7 @@ returns-then-not-may_map-clause-does g c =
     let l = direct_at g.L.LevelCount.LEVELS (g.P.PageTableFrameMapping.places c.args.located.mapping) c.args.located.root in
     let map = c.args.self.now in
     if_ok _ _ _ _ _ _
-    (refused l _ (g.T.TableMemory.tables c.args.memory.now) map.page map.frame (bits_of map.flags) (bits_of map.parent_flags) c.requires.fits g.S.PageSize.LEVEL g.S.PageSize.low g.S.PageSize.high
+    (refused map.page map.frame (bits_of map.flags) (bits_of map.parent_flags) l _ (g.T.TableMemory.tables c.args.memory.now) c.requires.fits g.S.PageSize.LEVEL
     (sym c.may_map.ensures.answer ∙ c.if-not-may_map.true) _ c.may_map.ensures.kept)
 
 pub returns-clause-does : goal.returns-clause-does

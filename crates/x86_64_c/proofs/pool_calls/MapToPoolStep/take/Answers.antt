@@ -1,9 +1,8 @@
 use Rattle.std.proofs.Common.{sym, ◌∙◌, rules}
-use Rattle.x86_64_model.specs.PageCalls.{page_call}
+use Rattle.x86_64_model.specs.Call.{MapToWithTableFlags}
 use Rattle.x86_64_model.proofs.Lemmas.Machines.Giving.{giving_from}
 use Rattle.x86_64_mappers.specs.Layouts.{direct_at}
 use Rattle.x86_64_tables.specs.PageTableFlags.{bits_of}
-use Rattle.x86_64.specs.Asked.{MapToWithTableFlags}
 use Rattle.x86_64_c.proofs.EntryChanges.{plain, supply_over, valid_over}
 use Rattle.x86_64_c.proofs.PoolSteps.{mapped, map_did, refused, seen_allows}
 use Rattle.x86_64_c.proofs.pool_calls.MapToPoolStep.take.Goals as goal
@@ -12,20 +11,20 @@ pub returns-then-not-map_allowed-clause-does : goal.returns-then-not-map_allowed
 returns-then-not-map_allowed-clause-does g c =
     let l = direct_at g.L.LevelCount.LEVELS (g.P.PageTableFrameMapping.places c.args.located.mapping) c.args.located.root in
     let level = g.S.PageSize.LEVEL in
-    let map = MapToWithTableFlags c.args.self.now.page c.args.self.now.frame (bits_of c.args.self.now.flags) (bits_of c.args.self.now.parent_flags) in
-    refused l _ (g.T.TableMemory.tables c.args.memory.now) c.args.self.now.page c.args.self.now.frame (bits_of c.args.self.now.flags) (bits_of c.args.self.now.parent_flags) c.requires.fits level g.S.PageSize.low g.S.PageSize.high
-    (sym (seen_allows _ l _ _ c.new-mapper.ensures.layout c.new-mapper.ensures.memory (λ k. page_call k level map)) ∙ sym c.map_allowed.ensures ∙ c.if-not-map_allowed.true) _ (search rules)
+    let map = MapToWithTableFlags level c.args.self.now.page c.args.self.now.frame (bits_of c.args.self.now.flags) (bits_of c.args.self.now.parent_flags) in
+    refused c.args.self.now.page c.args.self.now.frame (bits_of c.args.self.now.flags) (bits_of c.args.self.now.parent_flags) l _ (g.T.TableMemory.tables c.args.memory.now) c.requires.fits level
+    (sym (seen_allows _ l _ _ c.new-mapper.ensures.layout c.new-mapper.ensures.memory map) ∙ sym c.map_allowed.ensures ∙ c.if-not-map_allowed.true) _ (search rules)
 
 pub returns-clause-does : goal.returns-clause-does
 returns-clause-does g c =
     let l = direct_at g.L.LevelCount.LEVELS (g.P.PageTableFrameMapping.places c.args.located.mapping) c.args.located.root in
     let level = g.S.PageSize.LEVEL in
-    let map = MapToWithTableFlags c.args.self.now.page c.args.self.now.frame (bits_of c.args.self.now.flags) (bits_of c.args.self.now.parent_flags) in
-    mapped l _ (g.T.TableMemory.tables c.args.memory.now) c.args.self.now.page c.args.self.now.frame (bits_of c.args.self.now.flags) (bits_of c.args.self.now.parent_flags) _ c.map_to_with_table_flags-mapped.ensures.does.serves _ _ g.L.LevelCount.at_least_four plain
+    let map = MapToWithTableFlags level c.args.self.now.page c.args.self.now.frame (bits_of c.args.self.now.flags) (bits_of c.args.self.now.parent_flags) in
+    mapped c.args.self.now.page c.args.self.now.frame (bits_of c.args.self.now.flags) (bits_of c.args.self.now.parent_flags) l _ (g.T.TableMemory.tables c.args.memory.now) _ c.map_to_with_table_flags-mapped.ensures.does.serves _ _ g.L.LevelCount.at_least_four plain
     (giving_from _ g.met.F.FrameDeallocator.take_back_rearranges) (g.met.P.PageTableFrameMapping.is_mapping c.args.located.mapping) c.requires.fits c.map_to_with_table_flags-mapped.result c.map_to_with_table_flags-mapped.ensures.page c.mapped_status.ensures
     level g.S.PageSize.low g.S.PageSize.high
-    (map_did _ _ l _ _ c.new-mapper.ensures.layout c.new-mapper.ensures.memory (search rules) _ (λ k. page_call k level map) _ _ c.map_to_with_table_flags-mapped.ensures.does.map)
-    (sym (seen_allows _ l _ _ c.new-mapper.ensures.layout c.new-mapper.ensures.memory (λ k. page_call k level map)) ∙ sym c.map_allowed.ensures ∙ c.if-not-map_allowed.false)
+    (map_did _ _ l _ _ c.new-mapper.ensures.layout c.new-mapper.ensures.memory (search rules) _ map _ _ c.map_to_with_table_flags-mapped.ensures.does.map)
+    (sym (seen_allows _ l _ _ c.new-mapper.ensures.layout c.new-mapper.ensures.memory map) ∙ sym c.map_allowed.ensures ∙ c.if-not-map_allowed.false)
 
 pub map_allowed-requires : goal.map_allowed-requires
 map_allowed-requires g c = valid_over _ _ _ _ c.new-mapper.ensures.layout c.new-mapper.ensures.memory c.requires.fits.valid

@@ -1,5 +1,5 @@
 use Rattle.std.proofs.Common.{refl, sym, ap, ◌∙◌}
-use Rattle.x86_64_model.specs.PageCalls.{MapToWithTableFlags, page_call}
+use Rattle.x86_64_model.specs.Call.{MapToWithTableFlags}
 use Rattle.x86_64_mappers.specs.Layouts.{direct_at}
 use Rattle.x86_64_mappers.specs.TablesAbove.{tables_refusal}
 use Rattle.x86_64_tables.specs.PageTableFlags.{bits_of}
@@ -15,10 +15,10 @@ may_prepare-requires g c = c.requires.fits.valid
 pub prepare-prepared-requires-clause-may : goal.prepare-prepared-requires-clause-may
 prepare-prepared-requires-clause-may g c =
     let l = direct_at g.L.LevelCount.LEVELS (g.P.PageTableFrameMapping.places c.args.located.mapping) c.args.located.root in
-    let map = MapToWithTableFlags c.args.self.now.page 0 0 (bits_of c.args.self.now.parent_flags) in
+    let map = MapToWithTableFlags g.S.PageSize.LEVEL c.args.self.now.page 0 0 (bits_of c.args.self.now.parent_flags) in
     record {
       fits = supply_over l l _ _ refl c.may_prepare.ensures.kept _ _ c.requires.fits;
-      allowed = seen_allows l l _ _ refl c.may_prepare.ensures.kept (λ k. page_call k g.S.PageSize.LEVEL map) ∙ sym c.may_prepare.ensures.answer ∙ c.if-not-may_prepare.false;
+      allowed = seen_allows l l _ _ refl c.may_prepare.ensures.kept map ∙ sym c.may_prepare.ensures.answer ∙ c.if-not-may_prepare.false;
     }
 
 pub returns-then-not-may_prepare-clause-does : goal.returns-then-not-may_prepare-clause-does
