@@ -1,7 +1,8 @@
 -- The flush records of calls: one item for the token of each accepted call, in order, and no others.
-use Rattle.std.specs.Prelude.{◌≡◌, ◌==◌, ℕ, false, cond, take, drop, List, [], ◌∷◌, ◌++◌, Result, Ok, Err}
+use Rattle.std.specs.Prelude.{◌≡◌, ◌==◌, ℕ, false, cond, take, drop, map, List, [], ◌∷◌, ◌++◌, Result, Ok, Err}
 use Rattle.std.specs.List.{AllByRecursion}
 use Rattle.x86_64_model.specs.Arrivals.{KeepsArrival}
+use Rattle.x86_64_model.specs.Call.{Call}
 use Rattle.x86_64_model.specs.Flush as flush
 use Rattle.x86_64_model.specs.Layout.{Layout}
 use Rattle.x86_64_model.specs.Hierarchy.{◌laid_in◌, Hierarchy, words}
@@ -15,7 +16,6 @@ use Rattle.x86_64_model.specs.Window.{begins_with, IsValidFor}
 use Rattle.x86_64_tables.specs.declared.tokens.recorder.FlushItem.{FlushItem}
 use Rattle.x86_64_tables.specs.declared.tokens.recorder.FlushItem.TheVariants.{Page, Page57, All}
 use Rattle.x86_64_tables.specs.FlushRecorder.{page_item}
-use Rattle.x86_64.specs.Asked.{MapperCall, calls_by}
 use Rattle.x86_64.specs.Runs.{machine_of, state_with, appended}
 use Rattle.x86_64.specs.Replies.{SizeReply, Reply}
 use Rattle.x86_64.specs.declared.call_values.PageReply.TheVariants.{Map, Unmap, Update, TableFlags, Frame}
@@ -77,14 +77,14 @@ NoFlushItemCovers levels items p = AllByRecursion (λ item. flush.covers levels 
 -- The records cover every walk that a TLB may still hold. Take words V that mean the state after the first k calls, a position
 -- outside the recursive index, and suppose that no item of a later call covers it. If a walk in V arrives, the walk in U, the
 -- words after all calls, arrives at the same address, with no right lost.
-abbrev pub ItemsSuffice : {C : Type 0} → (asks : C → MapperCall) → Layout → (take_back : List ℕ → ℕ → List ℕ) → State → List C → List Reply → Words → Type 0
+abbrev pub ItemsSuffice : {C : Type 0} → (asks : C → Call) → Layout → (take_back : List ℕ → ℕ → List ℕ) → State → List C → List Reply → Words → Type 0
 ItemsSuffice asks l take_back start calls replies U =
-    (k : ℕ) (V : Words) (p : ℕ) → let then = state_after (machine_of l take_back) start (calls_by asks l.levels (take k calls)) in
+    (k : ℕ) (V : Words) (p : ℕ) → let then = state_after (machine_of l take_back) start (map asks (take k calls)) in
     IsValidFor l.levels l.window V l.root then.paths → begins_with l.window (page_path l.levels p) ≡ false → NoFlushItemCovers l.levels (items_told l.levels (drop k replies)) p
     → KeepsArrival (page_walk l.levels V l.root p) (page_walk l.levels U l.root p)
 
 -- After calls the records are those of before and one item for the token of each accepted call, in order, and these items
 -- suffice.
-pub record Flushed {C Lent : Type 0} (asks : C → MapperCall) (h : Hierarchy Lent) (store : Store) (calls : List C) (replies_before replies_now : List Reply) (before now : List FlushItem) (after : Hierarchy Lent) : Type 0 where
+pub record Flushed {C Lent : Type 0} (asks : C → Call) (h : Hierarchy Lent) (store : Store) (calls : List C) (replies_before replies_now : List Reply) (before now : List FlushItem) (after : Hierarchy Lent) : Type 0 where
   pub items : now ≡ before ++ items_told h.layout.levels (appended replies_before replies_now)
   pub suffice : ItemsSuffice asks h.layout store.take_back (state_with h store) calls (appended replies_before replies_now) (words (h.layout laid_in after.memory))

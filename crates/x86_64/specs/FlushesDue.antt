@@ -1,13 +1,13 @@
 -- What a kernel executes after a call: the least flush that settles all that the model makes due.
 use Rattle.std.specs.Prelude.{◌≡◌, ◌≤◌, ℕ, nat_lt, Bool, true, false, cond, List, [], ◌∷◌, length, Option, Some, None, option_map}
 use Rattle.x86_64_model.specs.Call as machine
+use Rattle.x86_64_model.specs.Call.{Call}
 use Rattle.x86_64_model.specs.Flushing as kernel
 use Rattle.x86_64_model.specs.Flushing.{Due, PageDue, TablesDue, WindowDue, BelowDue, Invlpg, LoadCr3, FlushAll, flush_after, due_between}
 use Rattle.x86_64_model.specs.Lists.{In}
 use Rattle.x86_64_model.specs.Path.{begins, level_of}
 use Rattle.x86_64_model.specs.Position.{page_path}
 use Rattle.x86_64_model.specs.Window.{Window}
-use Rattle.x86_64.specs.Asked.{MapperCall, machine_call}
 use Rattle.x86_64.specs.Replies.{Reply, reply_of}
 use Rattle.x86_64.specs.declared.flushing.Flush.{Flush}
 use Rattle.x86_64.specs.declared.flushing.Flush.TheVariants.{Nothing, Tables, Page, Everything}
@@ -37,9 +37,9 @@ flush_for (d ∷ due) = larger (told_of d) (flush_for due)
 
 -- The answer is the flush for all that is due after a call with this reply, with or without a recursive index, whatever frames it
 -- freed. If `loses` is false, the caller knows that no used entry loses anything, and then nothing is due.
-abbrev pub TellsFlush : (L : ℕ) → MapperCall → Reply → (recursive_index : Option ℕ) → (loses : Bool) → (answer : Flush) → Type 0
+abbrev pub TellsFlush : (L : ℕ) → Call → Reply → (recursive_index : Option ℕ) → (loses : Bool) → (answer : Flush) → Type 0
 TellsFlush L call reply index loses answer = (window : Option Window) (freed : List ℕ) (r : machine.Reply) → option_map (λ (w : Window). w.index) window ≡ index → reply_of call r ≡ Some reply
-    → answer ≡ flush_for (cond loses (flush_after L window freed (machine_call L call) r) [])
+    → answer ≡ flush_for (cond loses (flush_after L window freed call r) [])
 
 -- The answer is the flush for all that is due after the word of an entry of this level was exchanged for another one, with or without
 -- a recursive index, however many levels there are.

@@ -15,7 +15,6 @@ use Rattle.x86_64_model.specs.Memory.{Memory, Words}
 use Rattle.x86_64_model.specs.Path.{is_below}
 use Rattle.x86_64_model.specs.PathMap.{entry}
 use Rattle.x86_64_model.specs.Window.{Window}
-use Rattle.x86_64.specs.Asked.{MapperCall, machine_call}
 use Rattle.x86_64.specs.Calls.{page_of_call}
 use Rattle.x86_64.specs.FlushesDue.{TellsFlush, executed, settles_any}
 use Rattle.x86_64.specs.FreeFrames.{KeepsFree, back_by}
@@ -84,11 +83,11 @@ ArisesByFlushes = (l : Layout) (take_back : List ℕ → ℕ → List ℕ) (serv
 -- A call as `run_call` ensures it leaves nothing due if the flush follows that `flush_after` returns, or `flush_after_change` if
 -- the caller may know that no used entry loses anything, whatever the processor caches before the call and between the two.
 abbrev pub ArisesByFlushedCalls : Type 0
-ArisesByFlushedCalls = (l : Layout) (take_back : List ℕ → ℕ → List ℕ) (serves : ℕ → Bool) (m n : Memory) (pool rest : List ℕ) (call : MapperCall) (reply : Reply) (loses : Bool)
+ArisesByFlushedCalls = (l : Layout) (take_back : List ℕ → ℕ → List ℕ) (serves : ℕ → Bool) (m n : Memory) (pool rest : List ℕ) (call : Call) (reply : Reply) (loses : Bool)
     → let machine = machine_of l take_back in
-    IsCall l.levels (machine_call l.levels call) → PoolFits (l laid_in m) serves pool → step_by machine (state_in l m pool) call ≡ record { state = state_in l n rest; reply = Some reply }
-    → KeepsFree l m pool (back_by machine (state_in l m pool) (machine_call l.levels call)) n rest → PoolFits (l laid_in n) serves rest
-    → (loses ≡ false → NoneLoses machine (state_in l m pool) (machine_call l.levels call))
+    IsCall l.levels call → PoolFits (l laid_in m) serves pool → step_by machine (state_in l m pool) call ≡ record { state = state_in l n rest; reply = Some reply }
+    → KeepsFree l m pool (back_by machine (state_in l m pool) call) n rest → PoolFits (l laid_in n) serves rest
+    → (loses ≡ false → NoneLoses machine (state_in l m pool) call)
     → (flush : Flush) → TellsFlush l.levels call reply (option_map (λ (w : Window). w.index) l.window) loses flush
     → (before first second after : List Cached) → IsReachable l take_back serves m pool before [] → CachesOften l.levels l.root (words (l laid_in m)) before first
     → CachesOften l.levels l.root (words (l laid_in n)) first second → LeftBy l.levels (executed flush (unwrap_or (page_of_call l.levels call) 0)) second after

@@ -1,6 +1,7 @@
 -- The replies for the machine's replies, for any number of levels, or none if a call never gets that reply of the machine.
-use Rattle.std.specs.Prelude.{ℕ, ◌==◌, cond, Bool, true, false, Option, Some, None, option_map, Result, Ok, Err}
+use Rattle.std.specs.Prelude.{zero, suc, ℕ, ◌==◌, cond, Bool, true, false, Option, Some, None, option_map, Result, Ok, Err, is_err}
 use Rattle.x86_64_model.specs.Call as machine
+use Rattle.x86_64_model.specs.Call.{Call, MapTo, MapToWithTableFlags, IdentityMap, Unmap, UpdateFlags, SetFlags, TranslatePage, Translate, TranslateAddress, CleanUp}
 use Rattle.x86_64_model.specs.Refusal as refusal
 use Rattle.x86_64_model.specs.Refusal.{Refusal, Answer, Done, Refused}
 use Rattle.x86_64_model.specs.Translation.{Translated, NotMapped as Nowhere, Mapped as At}
@@ -19,7 +20,6 @@ use Rattle.x86_64_tables.specs.declared.translation.TranslateResult.TheVariants.
 use Rattle.x86_64_page.specs.declared.page.Size4KiB.{Size4KiB as Small}
 use Rattle.x86_64_page.specs.declared.page.Size2MiB.{Size2MiB as Large}
 use Rattle.x86_64_page.specs.declared.page.Size1GiB.{Size1GiB as Giant}
-use Rattle.x86_64.specs.Asked.{PageCall, MapTo, MapToWithTableFlags, IdentityMap, Unmap, UpdateFlags, SetFlags, TranslatePage, MapperCall, Of4KiB, Of2MiB, Of1GiB, Translate, TranslateAddr, CleanUp, CleanUpRange}
 use Rattle.x86_64.specs.declared.call_values.PageReply.{PageReply}
 use Rattle.x86_64.specs.declared.call_values.PageReply.TheVariants as page_reply
 use Rattle.x86_64.specs.declared.call_values.MapperReply.{MapperReply}
@@ -61,28 +61,11 @@ translate_error refusal.ParentEntryHugePage = Some page_frame.ParentEntryHugePag
 translate_error (refusal.InvalidFrameAddress address) = Some (page_frame.InvalidFrameAddress address)
 translate_error other = None
 
--- The result for the machine's answer: the value that `done` makes of its frame, or the error that `refused` makes of its
--- refusal. It is `None` if there is no such error.
-abbrev pub result_of : {X E : Type 0} → (done : ℕ → X) → (refused : Refusal → Option E) → Answer → Option (Result X E)
-result_of done refused (Done frame) = Some (Ok (done frame))
-result_of done refused (Refused why) = option_map Err (refused why)
-
--- The reply to a call on a page for the machine's answer, or `None` if the machine never answers this call so.
-abbrev pub size_reply : {S : Type 0} → PageCall → Answer → Option (SizeReply S)
-size_reply (MapTo page frame flags) answer = option_map page_reply.Map (result_of (λ mapped. page) map_error answer)
-size_reply (MapToWithTableFlags page frame flags parent_flags) answer = option_map page_reply.Map (result_of (λ mapped. page) map_error answer)
-size_reply (IdentityMap frame flags) answer = option_map page_reply.Map (result_of (λ mapped. frame) map_error answer)
-size_reply (Unmap page) answer = option_map page_reply.Unmap (result_of (λ frame. (frame, page)) unmap_error answer)
-size_reply (UpdateFlags page flags) answer = option_map page_reply.Update (result_of (λ frame. page) update_error answer)
-size_reply (SetFlags at page flags) answer = option_map page_reply.TableFlags (result_of (λ frame. tt) update_error answer)
-size_reply (TranslatePage page) answer = option_map page_reply.Frame (result_of (λ frame. frame) translate_error answer)
-
--- The reply to a call on a page for the machine's reply, or `None` if the machine never replies to such a call so. `Some None`
--- stands for a call that isn't allowed.
-abbrev pub size_answer : {S : Type 0} → PageCall → machine.Reply → Option (Option (SizeReply S))
-size_answer call (machine.Answered answer) = option_map Some (size_reply call answer)
-size_answer call machine.NotAllowed = Some None
-size_answer call other = None
+-- The reply to a call on a page for the machine's answer, which `wrap` makes of the result: the value that `done` makes of the
+-- answer's frame, or the error that `refused` makes of its refusal. It is `None` if there is no such error.
+abbrev pub result_reply : {X E S : Type 0} → (wrap : Result X E → SizeReply S) → (done : ℕ → X) → (refused : Refusal → Option E) → Answer → Option (SizeReply S)
+result_reply wrap done refused (Done frame) = Some (wrap (Ok (done frame)))
+result_reply wrap done refused (Refused why) = option_map (λ error. wrap (Err error)) (refused why)
 
 -- The frame of a size in bytes that starts at an address, or `None` if there are no pages of this size.
 abbrev pub mapped_frame : (size start : ℕ) → Option MappedFrame
@@ -93,37 +76,38 @@ abbrev pub translate_result : Translated → Option TranslateResult
 translate_result Nowhere = Some NotMapped
 translate_result (At size frame offset flags) = option_map (λ frame. Mapped frame offset (record { 0 = flags })) (mapped_frame size frame)
 
--- The mapper's reply that holds a reply to a call on a page, as `wrap` puts it there for the page's size. For `None` it is that
--- the call isn't allowed.
-abbrev pub sized : {S : Type 0} → (SizeReply S → Reply) → Option (SizeReply S) → Reply
-sized wrap None = reply.NotAllowed
-sized wrap (Some answer) = wrap answer
+-- The reply to a call on a page of a level for the machine's reply, or `None` if the machine never replies so to such a call.
+-- `replies` says what the machine's answer means for a page of the size S.
+abbrev pub sized : (replies : (S : Type 0) → Answer → Option (SizeReply S)) → machine.Reply → (level : ℕ) → Option Reply
+sized replies machine.NotAllowed level = Some reply.NotAllowed
+sized replies (machine.Answered answer) (suc zero) = option_map reply.Of4KiB (replies Small answer)
+sized replies (machine.Answered answer) (suc (suc zero)) = option_map reply.Of2MiB (replies Large answer)
+sized replies (machine.Answered answer) (suc (suc (suc zero))) = option_map reply.Of1GiB (replies Giant answer)
+sized replies r level = None
 
--- The reply to a mapper's call for the machine's reply, or `None` if the machine never replies to this call so.
-abbrev pub reply_of : MapperCall → machine.Reply → Option Reply
-reply_of (Of4KiB call) answer = option_map (sized reply.Of4KiB) (size_answer call answer)
-reply_of (Of2MiB call) answer = option_map (sized reply.Of2MiB) (size_answer call answer)
-reply_of (Of1GiB call) answer = option_map (sized reply.Of1GiB) (size_answer call answer)
+-- The reply to a call for the machine's reply, or `None` if the machine never replies to this call so.
+abbrev pub reply_of : Call → machine.Reply → Option Reply
+reply_of (MapTo level page frame flags) r = sized (λ S. result_reply page_reply.Map (λ mapped. page) map_error) r level
+reply_of (MapToWithTableFlags level page frame flags parent_flags) r = sized (λ S. result_reply page_reply.Map (λ mapped. page) map_error) r level
+reply_of (IdentityMap level frame flags) r = sized (λ S. result_reply page_reply.Map (λ mapped. frame) map_error) r level
+reply_of (Unmap level page) r = sized (λ S. result_reply page_reply.Unmap (λ frame. (frame, page)) unmap_error) r level
+reply_of (UpdateFlags level page flags) r = sized (λ S. result_reply page_reply.Update (λ frame. page) update_error) r level
+reply_of (SetFlags at level page flags) r = sized (λ S. result_reply page_reply.TableFlags (λ frame. tt) update_error) r level
+reply_of (TranslatePage level page) r = sized (λ S. result_reply page_reply.Frame (λ frame. frame) translate_error) r level
 reply_of (Translate position) (machine.Position translated) = option_map reply.Translate (translate_result translated)
-reply_of (TranslateAddr position) (machine.Address address) = Some (reply.Address address)
-reply_of CleanUp machine.Cleaned = Some reply.Cleaned
-reply_of (CleanUpRange low high) machine.Cleaned = Some reply.Cleaned
-reply_of call other = None
+reply_of (TranslateAddress position) (machine.Address address) = Some (reply.Address address)
+reply_of (CleanUp low high) machine.Cleaned = Some reply.Cleaned
+reply_of call r = None
 
 -- ---- replies of calls that change nothing
-
--- Whether a call with this result was refused.
-abbrev pub is_error : {X E : Type 0} → Result X E → Bool
-is_error (Ok done) = false
-is_error (Err why) = true
 
 -- Whether a reply to a call on a page shows that no word changed: the call is a translation, or it was refused and isn't a map. A
 -- refused map may have created tables.
 abbrev pub size_changes_nothing : {S : Type 0} → SizeReply S → Bool
 size_changes_nothing (page_reply.Map mapped) = false
-size_changes_nothing (page_reply.Unmap unmapped) = is_error unmapped
-size_changes_nothing (page_reply.Update updated) = is_error updated
-size_changes_nothing (page_reply.TableFlags done) = is_error done
+size_changes_nothing (page_reply.Unmap unmapped) = is_err unmapped
+size_changes_nothing (page_reply.Update updated) = is_err updated
+size_changes_nothing (page_reply.TableFlags done) = is_err done
 size_changes_nothing (page_reply.Frame frame) = true
 
 -- Whether a mapper's reply shows that no word changed: the call is a translation, wasn't allowed, or was refused and isn't a map.

@@ -2,7 +2,7 @@
 -- of a kernel.
 use Rattle.std.specs.Prelude.{◌≡◌, ◌≢◌, ◌<◌, ◌++◌, ℕ, Bool, true, false, cond, List, [], ◌∷◌, map, Some, None, option_map, unwrap_or}
 use Rattle.x86_64_model.specs.Caches.{PartialWalk, MayAccess, walk_with_rights}
-use Rattle.x86_64_model.specs.Call.{IsCall, parent_flags_of}
+use Rattle.x86_64_model.specs.Call.{Call, IsCall, parent_flags_of}
 use Rattle.x86_64_model.specs.Entry.{IsParentFlags}
 use Rattle.x86_64_model.specs.Flushing.{Due, PageDue, StayFree, due_after, mapped_by}
 use Rattle.x86_64_model.specs.Laws.Caches.{WalksThere}
@@ -22,7 +22,6 @@ use Rattle.x86_64_model.specs.Store.{KeepsPool}
 use Rattle.x86_64_model.specs.Switches.{Kernel, Switching, SwitchEvent, Abandons, Flushes, is_concerned, is_held}
 use Rattle.x86_64_model.specs.Tags.{Tag, Tagged, Of, TaggedFlush, Invlpg, InvpcidAll, is_left, usable}
 use Rattle.x86_64_model.specs.Window.{Window}
-use Rattle.x86_64.specs.Asked.{MapperCall, machine_call}
 use Rattle.x86_64.specs.Calls.{page_of_call}
 use Rattle.x86_64.specs.FlushesDue.{TellsFlush, InPages, flush_for}
 use Rattle.x86_64.specs.FreeFrames.{KeepsFree, back_by}
@@ -52,16 +51,16 @@ pub record NoneDue (s : Switching) : Type 0 where
 -- index that it doesn't avoid.
 pub record RunsOn (k : Kernel) (places : Places) (sharing : (root other : ℕ) → ℕ → Bool) (m : Memory)
     (pool : List ℕ) (n : Memory)
-    (rest : List ℕ) (layouts : List Layout) (one : Layout) (call : MapperCall) (reply : Reply)
+    (rest : List ℕ) (layouts : List Layout) (one : Layout) (call : Call) (reply : Reply)
     (loses : Bool) (reaches : ℕ → Bool) (everywhere : Bool) : Type 0 where
   pub steps : step_by (machine_of one k.take_back) (state_in one m pool) call
       ≡ record { state = state_in one n rest; reply = Some reply }
-  pub free : KeepsFree one m pool (back_by (machine_of one k.take_back) (state_in one m pool) (machine_call one.levels call)) n rest
+  pub free : KeepsFree one m pool (back_by (machine_of one k.take_back) (state_in one m pool) call) n rest
   pub keeps : KeepsPool one k.serves m pool n rest
-  pub is_call : IsCall one.levels (machine_call one.levels call)
+  pub is_call : IsCall one.levels call
   pub adds : IsParentFlags one.added_flags
   pub loses_nothing : loses ≡ false
-      → NoneLoses (machine_of one k.take_back) (state_in one m pool) (machine_call one.levels call)
+      → NoneLoses (machine_of one k.take_back) (state_in one m pool) call
   pub is_sharing : IsSharing sharing
   pub all_share : AllShare k sharing
   pub there : In layouts one
@@ -71,13 +70,12 @@ pub record RunsOn (k : Kernel) (places : Places) (sharing : (root other : ℕ) �
   pub root_entries : (b : Layout) → In layouts b → one.root ≢ b.root
       → KeepsRootEntries (sharing one.root b.root) one m n
   pub unreached : (b : Layout) → In layouts b → reaches b.root ≡ false
-      → (one.root ≢ b.root) × Avoids one.levels (sharing one.root b.root) (machine_call one.levels call)
-  pub avoids : everywhere ≡ false → Avoids one.levels k.shared (machine_call one.levels call)
+      → (one.root ≢ b.root) × Avoids one.levels (sharing one.root b.root) call
+  pub avoids : everywhere ≡ false → Avoids one.levels k.shared call
 
 -- What a call on one of the address spaces makes due, or nothing if the kernel knows that no used entry loses anything.
-abbrev pub made_by : Kernel → Layout → Memory → (pool : List ℕ) → MapperCall → (loses : Bool) → List Due
-made_by k one m pool call loses = let asked = machine_call one.levels call in
-    cond loses (due_after (machine_of one k.take_back) (state_in one m pool) asked) []
+abbrev pub made_by : Kernel → Layout → Memory → (pool : List ℕ) → Call → (loses : Bool) → List Due
+made_by k one m pool call loses = cond loses (due_after (machine_of one k.take_back) (state_in one m pool) call) []
 
 -- The system after a call that made this due: for the items of each PCID that holds a root that the call reaches, and for global
 -- translations, unless the call avoids the indices that all share.
@@ -145,13 +143,13 @@ abbrev pub ReachedByCalls : Type 0
 ReachedByCalls = (k : Kernel) (places : Places) → IsMapping places → 0 < k.levels → TakesBack k.take_back
     → (sharing : (root other : ℕ) → ℕ → Bool) (m n : Memory) (pool rest : List ℕ) (layouts : List Layout)
     (one : Layout)
-    → (call : MapperCall) (reply : Reply) (loses : Bool) (reaches : ℕ → Bool) (everywhere : Bool)
+    → (call : Call) (reply : Reply) (loses : Bool) (reaches : ℕ → Bool) (everywhere : Bool)
     (s : Switching)
     → RunsOn k places sharing m pool n rest layouts one call reply loses reaches everywhere
     → IsReachedBySwitches k places m pool layouts s
     → ((c : ℕ) → StayFree (s.due (Of c)) pool rest)
     → ((tag : Tag) (q r : List ℕ) (frame : ℕ) → In (s.due tag) (PageDue q frame)
-    → mapped_by one.levels (machine_call one.levels call) ≡ Some r → is_below q r ≡ false)
+    → mapped_by one.levels call ≡ Some r → is_below q r ≡ false)
     → IsReachedBySwitches k places n rest layouts (with_due (made_by k one m pool call loses) reaches everywhere s)
 
 -- If this list has all that is due, and each PCID for which something is due holds a root that the call reaches, the flush for
@@ -174,7 +172,7 @@ ReachedByFlushedCalls = (k : Kernel) (places : Places) → IsMapping places → 
     → TakesBack k.take_back
     → (sharing : (root other : ℕ) → ℕ → Bool) (m n : Memory) (pool rest : List ℕ) (layouts : List Layout)
     (one : Layout)
-    → (call : MapperCall) (reply : Reply) (loses : Bool) (reaches : ℕ → Bool) (everywhere : Bool)
+    → (call : Call) (reply : Reply) (loses : Bool) (reaches : ℕ → Bool) (everywhere : Bool)
     (s : Switching)
     → RunsOn k places sharing m pool n rest layouts one call reply loses reaches everywhere
     → IsReachedBySwitches k places m pool layouts s → NoneDue s

@@ -181,11 +181,11 @@ impl<S: PageSize, L: LevelCount, P5: Copy> Clone for SizeCallIn<S, L, P5> {
 }
 
 impl<S: PageSize, L: LevelCount, P5: LevelFiveFlags<L>> SizeCallIn<S, L, P5> {
-    ghost use Rattle.x86_64.specs.Calls.{size_asks, size_names, page_of};
+    ghost use Rattle.x86_64.specs.Calls.{names_by, page_call, page_of_call};
 
     /// Returns the call's page, or `None` for an identity map if there is no page at the frame's address.
     fn page(&self) -> Option<PageIn<S, L>>
-        ensures { result ≡ page_of L.LEVELS (size_asks P5.bits self.now) }
+        ensures { result ≡ page_of_call L.LEVELS (page_call S.LEVEL P5.bits self.now) }
     {
         match self {
             SizeCallIn::MapTo { page, .. }
@@ -204,7 +204,7 @@ impl<S: PageSize, L: LevelCount, P5: LevelFiveFlags<L>> SizeCallIn<S, L, P5> {
     /// Returns true if the call's page has this index of the highest level. The page of an identity map counts if
     /// there is one.
     fn names(&self, index: PageTableIndex) -> bool
-        ensures { result ≡ size_names L.LEVELS P5.bits self.now index }
+        ensures { result ≡ names_by L.LEVELS (page_call S.LEVEL P5.bits self.now) index }
     {
         match self.page() {
             Some(page) => page.table_index(L::LEVELS) == index,
@@ -214,7 +214,7 @@ impl<S: PageSize, L: LevelCount, P5: LevelFiveFlags<L>> SizeCallIn<S, L, P5> {
 
     /// Returns the start address of the call's page, if it has one.
     fn page_start(&self) -> Option<VirtAddrIn<L>>
-        ensures { result ≡ page_of L.LEVELS (size_asks P5.bits self.now) }
+        ensures { result ≡ page_of_call L.LEVELS (page_call S.LEVEL P5.bits self.now) }
     {
         match self.page() {
             Some(page) => Some(page.start_address()),
@@ -285,7 +285,7 @@ impl<L: LevelCount, P5: LevelFiveFlags<L>> CallIn<L, P5> {
     /// Returns the start address of the call's page, or `None` if the call has none: a translation of an address, a clean
     /// up, an identity map of a frame that doesn't start in the lower half of the address space.
     pub fn page_start(&self) -> Option<VirtAddrIn<L>>
-        ensures { result ≡ page_of_call L.LEVELS (to_call P5.bits self.now) }
+        ensures { result ≡ page_of_call L.LEVELS (to_call L.LEVELS P5.bits self.now) }
     {
         match self {
             CallIn::Of4KiB(call) => call.page_start(),

@@ -3,9 +3,9 @@ ghost use Rattle.std.specs.Prelude.{◌≡◌, ◌&&◌, not, true, false, bit_a
 ghost use Rattle.x86_64_model.specs.Entry.{has, used};
 ghost use Rattle.x86_64_model.specs.Flushing.{LosesNothing};
 ghost use Rattle.x86_64_tables.specs.PageTableFlags.{bits_of};
-ghost use Rattle.x86_64.specs.Calls.{to_call, size_asks};
+ghost use Rattle.x86_64.specs.Calls.{page_call, to_call};
 ghost use Rattle.x86_64.specs.FlushesDue.{TellsFlush, TellsFlushBetween};
-ghost use Rattle.x86_64.specs.private.FlushReplies.{page_flush, page_takes, takes};
+ghost use Rattle.x86_64.specs.private.FlushReplies.{page_flush, takes};
 
 use crate::call_values::{
     CallIn, LevelFiveFlags, MapperReply, PageReply, ReplyIn, SizeCallIn, SizeReplyIn,
@@ -39,7 +39,7 @@ pub enum Flush {
 impl<S: PageSize, L: LevelCount, P5: LevelFiveFlags<L>> SizeCallIn<S, L, P5> {
     /// Returns true if the call marks the entries above its page with `NO_EXECUTE`.
     fn takes_execute(&self) -> bool
-        ensures { result ≡ page_takes (size_asks P5.bits self.now) }
+        ensures { result ≡ takes (page_call S.LEVEL P5.bits self.now) }
     {
         match self {
             SizeCallIn::MapToWithTableFlags { parent_flags, .. } => {
@@ -53,7 +53,7 @@ impl<S: PageSize, L: LevelCount, P5: LevelFiveFlags<L>> SizeCallIn<S, L, P5> {
 impl<L: LevelCount, P5: LevelFiveFlags<L>> CallIn<L, P5> {
     /// Returns true if the call marks the entries above its page with `NO_EXECUTE`.
     fn takes_execute(&self) -> bool
-        ensures { result ≡ takes (to_call P5.bits self.now) }
+        ensures { result ≡ takes (to_call L.LEVELS P5.bits self.now) }
     {
         match self {
             CallIn::Of4KiB(call) => call.takes_execute(),
@@ -105,7 +105,7 @@ pub fn flush_after<L: LevelCount, P5: LevelFiveFlags<L>>(
     reply: &ReplyIn<L>,
     recursive_index: Option<PageTableIndex>,
 ) -> Flush
-    ensures { TellsFlush L.LEVELS (to_call P5.bits call.now) reply.now recursive_index true result }
+    ensures { TellsFlush L.LEVELS (to_call L.LEVELS P5.bits call.now) reply.now recursive_index true result }
 {
     let recursive = recursive_index.is_some();
     let takes_execute = call.takes_execute();
@@ -132,7 +132,7 @@ pub fn flush_after_change<L: LevelCount, P5: LevelFiveFlags<L>>(
     recursive_index: Option<PageTableIndex>,
     loses: bool,
 ) -> Flush
-    ensures { TellsFlush L.LEVELS (to_call P5.bits call.now) reply.now recursive_index loses result }
+    ensures { TellsFlush L.LEVELS (to_call L.LEVELS P5.bits call.now) reply.now recursive_index loses result }
 {
     if loses {
         flush_after(call, reply, recursive_index)

@@ -2,11 +2,11 @@
 ghost use Rattle.std.specs.Prelude.{◌≡◌, ◌+◌, ◌<◌, ◌≤◌, ◌++◌, ◌&&◌, ℕ, true, not, length, OnOk, OnErr, vec_len};
 ghost use Rattle.std.specs.Vec.{vec_capacity};
 ghost use Rattle.x86_64_model.specs.Entry.{huge, no_address};
-ghost use Rattle.x86_64_model.specs.Hierarchy.{Valid, allows};
-ghost use Rattle.x86_64_model.specs.PageCalls.{MayAsk, SetFlags, asked};
+ghost use Rattle.x86_64_model.specs.Call.{SetFlags};
+ghost use Rattle.x86_64_model.specs.Hierarchy.{MayCall, Valid, allows};
 ghost use Rattle.x86_64_model.specs.Store.{StoreFits, Keeps, store_of};
 ghost use Rattle.x86_64_tables.specs.PageTableFlags.{bits_of};
-ghost use Rattle.x86_64.specs.Calls.{to_call, size_asks, in_window};
+ghost use Rattle.x86_64.specs.Calls.{in_window, page_call, to_call};
 ghost use Rattle.x86_64.specs.Flushes.{flush_items_of, items_told, size_items};
 ghost use Rattle.x86_64.specs.Replies.{changes_nothing};
 ghost use Rattle.x86_64.specs.Runs.{LeavesFree, Ran, Stepped, appended};
@@ -51,7 +51,7 @@ pub fn run<L: LevelCount, P5: LevelFiveFlags<L>, M: TableAccess + TablesIn<L>, F
     replies: &mut Vec<ReplyIn<L>>,
 ) -> Result<(), AllocError>
     requires { StoreFits (M.hierarchy mapper.old) (store_of F.FrameStore frames.old) }
-    ensures ran { OnOk result (Ran (to_call P5.bits) (M.hierarchy mapper.old)
+    ensures ran { OnOk result (Ran (to_call L.LEVELS P5.bits) (M.hierarchy mapper.old)
         (store_of F.FrameStore frames.old)
         calls.now replies.old.items replies.new.items (M.hierarchy mapper.new) (F.supply frames.new)) }
     ensures unchanged { OnErr result (
@@ -76,11 +76,11 @@ pub fn run_call<L: LevelCount, P5: LevelFiveFlags<L>, M: TableAccess + TablesIn<
 ) -> ReplyIn<L>
     requires { StoreFits (M.hierarchy mapper.old) (store_of F.FrameStore frames.old) }
     ensures step { Stepped (M.hierarchy mapper.old) (store_of F.FrameStore frames.old)
-        (to_call P5.bits call) result (M.hierarchy mapper.new) (F.supply frames.new) }
+        (to_call L.LEVELS P5.bits call) result (M.hierarchy mapper.new) (F.supply frames.new) }
     ensures unchanged { changes_nothing result ≡ true
         → (M.hierarchy mapper.new).memory ≡ (M.hierarchy mapper.old).memory }
     ensures free { LeavesFree (M.hierarchy mapper.old) (store_of F.FrameStore frames.old)
-        (to_call P5.bits call) (M.hierarchy mapper.new) (F.supply frames.new) }
+        (to_call L.LEVELS P5.bits call) (M.hierarchy mapper.new) (F.supply frames.new) }
     ensures keeps { Keeps (M.hierarchy mapper.old) (store_of F.FrameStore frames.old)
         (M.hierarchy mapper.new) (store_of F.FrameStore frames.new) }
 {
@@ -104,7 +104,7 @@ fn serve_all<
     requires fits { StoreFits (M.hierarchy mapper.old) (store_of F.FrameStore frames.old) }
     requires reserved { vec_len replies.old + length calls.now ≤ vec_capacity replies.old }
     requires room { K.has_room tokens.old (length calls.now) }
-    ensures ran { Ran (to_call P5.bits) (M.hierarchy mapper.old) (store_of F.FrameStore frames.old)
+    ensures ran { Ran (to_call L.LEVELS P5.bits) (M.hierarchy mapper.old) (store_of F.FrameStore frames.old)
         calls.now replies.old.items replies.new.items (M.hierarchy mapper.new) (F.supply frames.new) }
     ensures items { K.items tokens.new ≡ K.items tokens.old
         ++ recorded K.records (items_told L.LEVELS (appended replies.old.items replies.new.items)) }
@@ -127,11 +127,11 @@ fn serve<
     requires fits { StoreFits (M.hierarchy mapper.old) (store_of F.FrameStore frames.old) }
     requires room { K.has_room tokens.old 1 }
     ensures step { Stepped (M.hierarchy mapper.old) (store_of F.FrameStore frames.old)
-        (to_call P5.bits call) result (M.hierarchy mapper.new) (F.supply frames.new) }
+        (to_call L.LEVELS P5.bits call) result (M.hierarchy mapper.new) (F.supply frames.new) }
     ensures still { changes_nothing result ≡ true
         → (M.hierarchy mapper.new).memory ≡ (M.hierarchy mapper.old).memory }
     ensures free { LeavesFree (M.hierarchy mapper.old) (store_of F.FrameStore frames.old)
-        (to_call P5.bits call) (M.hierarchy mapper.new) (F.supply frames.new) }
+        (to_call L.LEVELS P5.bits call) (M.hierarchy mapper.new) (F.supply frames.new) }
     ensures keeps { Keeps (M.hierarchy mapper.old) (store_of F.FrameStore frames.old)
         (M.hierarchy mapper.new) (store_of F.FrameStore frames.new) }
     ensures items { K.items tokens.new ≡ K.items tokens.old
@@ -180,8 +180,8 @@ fn serve_page<
 ) -> Option<SizeReplyIn<S, L>>
     requires fits { StoreFits (M.hierarchy mapper.old) (store_of F.FrameStore frames.old) }
     requires room { K.has_room tokens.old 1 }
-    ensures step { PageStepped (M.hierarchy mapper.old) (store_of F.FrameStore frames.old) S.LEVEL
-        (size_asks P5.bits call) result (M.hierarchy mapper.new) (F.supply frames.new) }
+    ensures step { PageStepped (M.hierarchy mapper.old) (store_of F.FrameStore frames.old)
+        (page_call S.LEVEL P5.bits call) result (M.hierarchy mapper.new) (F.supply frames.new) }
     ensures still { changes_nothing_where result ≡ true
         → (M.hierarchy mapper.new).memory ≡ (M.hierarchy mapper.old).memory }
     ensures free { PageLeavesFree (M.hierarchy mapper.old) (F.supply frames.old)
@@ -246,9 +246,9 @@ fn set_flags<S: PageSize, L: LevelCount, M: TableAccess + TablesIn<L>, K: Tokens
 ) -> SizeReplyIn<S, L>
     requires low { 2 ≤ level }
     requires high { level ≤ L.LEVELS }
-    requires may { MayAsk (M.hierarchy mapper.old) S.LEVEL (SetFlags level page (bits_of flags)) }
+    requires may { MayCall (M.hierarchy mapper.old) (SetFlags level S.LEVEL page (bits_of flags)) }
     requires room { K.has_room tokens.old 1 }
-    ensures sets { SetsFlags (M.hierarchy mapper.old) S.LEVEL (SetFlags level page (bits_of flags))
+    ensures sets { SetsFlags (M.hierarchy mapper.old) (SetFlags level S.LEVEL page (bits_of flags))
         result (M.hierarchy mapper.new) }
     ensures items { K.items tokens.new ≡ K.items tokens.old
         ++ recorded K.records (size_items L.LEVELS S.SIZE result) }
@@ -264,8 +264,7 @@ fn is_allowed<S: PageSize, L: LevelCount, P5: LevelFiveFlags<L>, M: TableAccess 
     call: &SizeCallIn<S, L, P5>,
 ) -> bool
     requires { Valid (M.hierarchy mapper.now) }
-    ensures { result ≡ allows (M.hierarchy mapper.now)
-        (asked (M.hierarchy mapper.now) S.LEVEL (size_asks P5.bits call.now)) }
+    ensures { result ≡ allows (M.hierarchy mapper.now) (page_call S.LEVEL P5.bits call.now) }
 {
     match call {
         SizeCallIn::MapTo { page, flags, .. } => {

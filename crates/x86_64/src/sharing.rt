@@ -7,9 +7,9 @@ ghost use Rattle.x86_64_model.specs.Position.{index};
 ghost use Rattle.x86_64_model.specs.Store.{StoreFits, Keeps, store_of};
 ghost use Rattle.x86_64_spaces.specs.SpaceLayouts.{indices_of};
 ghost use Rattle.x86_64_tables.specs.PageTableFlags.{bits_of};
-ghost use Rattle.x86_64.specs.Calls.{to_call, size_asks};
+ghost use Rattle.x86_64.specs.Calls.{page_call, to_call};
 ghost use Rattle.x86_64.specs.Runs.{LeavesFree, Stepped};
-ghost use Rattle.x86_64.specs.Sharing.{KeepsShared, KeepsSpaces, PageKeepsShared};
+ghost use Rattle.x86_64.specs.Sharing.{KeepsShared, KeepsSpaces};
 
 use crate::call_values::{CallIn, LevelFiveFlags, ReplyIn, SizeCallIn};
 use crate::runs::run_call;
@@ -54,11 +54,11 @@ pub fn run_call_in_space<
 ) -> Result<ReplyIn<L>, SharedEntry>
     requires { StoreFits (M.hierarchy mapper.old) (store_of F.FrameStore frames.old) }
     ensures step { IfOk result (λ reply. Stepped (M.hierarchy mapper.old) (store_of F.FrameStore frames.old)
-        (to_call P5.bits call) reply (M.hierarchy mapper.new) (F.supply frames.new)) }
+        (to_call L.LEVELS P5.bits call) reply (M.hierarchy mapper.new) (F.supply frames.new)) }
     ensures free { OnOk result (LeavesFree (M.hierarchy mapper.old) (store_of F.FrameStore frames.old)
-        (to_call P5.bits call) (M.hierarchy mapper.new) (F.supply frames.new)) }
+        (to_call L.LEVELS P5.bits call) (M.hierarchy mapper.new) (F.supply frames.new)) }
     ensures refused { OnErr result (
-        (KeepsShared (M.hierarchy mapper.old) (indices_of shared) (to_call P5.bits call) → ⊥)
+        (KeepsShared (M.hierarchy mapper.old) (indices_of shared) (to_call L.LEVELS P5.bits call) → ⊥)
         × (mapper.new ≡ mapper.old) × (frames.new ≡ frames.old)) }
     ensures spaces { KeepsSpaces (indices_of shared)
         (M.hierarchy mapper.old) (store_of F.FrameStore frames.old)
@@ -89,7 +89,7 @@ pub fn keeps_shared_entries<L: LevelCount, P5: LevelFiveFlags<L>, M: TableAccess
 ) -> bool
     requires { Valid (M.hierarchy mapper.now) }
     ensures { IsTrue result
-        ↔ KeepsShared (M.hierarchy mapper.now) (indices_of shared) (to_call P5.bits call.now) }
+        ↔ KeepsShared (M.hierarchy mapper.now) (indices_of shared) (to_call L.LEVELS P5.bits call.now) }
 {
     match call {
         CallIn::Of4KiB(call) => page_keeps(mapper, call, shared),
@@ -110,8 +110,8 @@ fn page_keeps<S: PageSize, L: LevelCount, P5: LevelFiveFlags<L>, M: TableAccess 
     shared: SharedIndices,
 ) -> bool
     requires { Valid (M.hierarchy mapper.now) }
-    ensures { IsTrue result ↔ PageKeepsShared (M.hierarchy mapper.now) (indices_of shared) S.LEVEL
-        (size_asks P5.bits call.now) }
+    ensures { IsTrue result ↔ KeepsShared (M.hierarchy mapper.now) (indices_of shared)
+        (page_call S.LEVEL P5.bits call.now) }
 {
     match call {
         SizeCallIn::MapTo { page, flags, .. } => {

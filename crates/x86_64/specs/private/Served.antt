@@ -1,17 +1,19 @@
 -- Notions for calls on pages and for their tokens.
-use Rattle.std.specs.Prelude.{◌≡◌, ◌≤◌, ◌+◌, ℕ, Bool, true, false, List, [], Option, Some, None, Result}
+use Rattle.std.specs.Prelude.{◌≡◌, ◌≤◌, ◌+◌, ℕ, Bool, true, false, List, [], Option, Some, None, option_map, Result}
 use Rattle.std.proofs.Common.{arith}
+use Rattle.x86_64_model.specs.Call as machine
+use Rattle.x86_64_model.specs.Call.{Call, MapTo, MapToWithTableFlags, IdentityMap, Unmap, UpdateFlags, SetFlags, TranslatePage}
 use Rattle.x86_64_model.specs.Machine.{Machine, State, step}
 use Rattle.x86_64_model.specs.Hierarchy.{Hierarchy}
+use Rattle.x86_64_model.specs.Refusal.{Answer}
 use Rattle.x86_64_model.specs.Store.{Store}
-use Rattle.x86_64_mappers.specs.PageAnswers.{AnswersFlags}
+use Rattle.x86_64_mappers.specs.PageAnswers.{DoesFlags}
 use Rattle.x86_64_tables.specs.declared.errors.FlagUpdateError.{FlagUpdateError}
 use Rattle.x86_64_tables.specs.declared.tokens.recorder.FlushItem.{FlushItem}
 use Rattle.std.specs.declared.convert.Infallible.{Infallible}
-use Rattle.x86_64.specs.Asked.{PageCall, page_call}
-use Rattle.x86_64.specs.declared.call_values.PageReply.TheVariants.{TableFlags}
+use Rattle.x86_64.specs.declared.call_values.PageReply.TheVariants as page_reply
 use Rattle.x86_64.specs.Flushes.{size_items}
-use Rattle.x86_64.specs.Replies.{SizeReply, size_answer, size_changes_nothing}
+use Rattle.x86_64.specs.Replies.{SizeReply, result_reply, map_error, unmap_error, update_error, translate_error, size_changes_nothing}
 use Rattle.x86_64.specs.Runs.{AfterStep, machine_with, state_in, state_with}
 use Rattle.x86_64.specs.FreeFrames.{KeepsFree}
 
@@ -34,25 +36,41 @@ abbrev pub changes_nothing_where : {S : Type 0} → Option (SizeReply S) → Boo
 changes_nothing_where None = true
 changes_nothing_where (Some answer) = size_changes_nothing answer
 
--- The machine's step for a call on a page that an entry of the level maps: the next state, and the reply, which is `Some None` if
--- the call isn't allowed.
-abbrev pub size_step : {S : Type 0} → Machine → (level : ℕ) → State → PageCall → AfterStep (Option (SizeReply S))
-size_step machine level state call =
-    let after = step machine state (page_call machine.levels level call) in
-    record { state = after.state; reply = size_answer call after.reply }
+-- The reply to a call on a page of the size S for the machine's answer, or `None` if the machine never answers this call so.
+abbrev pub size_reply : {S : Type 0} → Call → Answer → Option (SizeReply S)
+size_reply (MapTo level page frame flags) answer = result_reply page_reply.Map (λ mapped. page) map_error answer
+size_reply (MapToWithTableFlags level page frame flags parent_flags) answer = result_reply page_reply.Map (λ mapped. page) map_error answer
+size_reply (IdentityMap level frame flags) answer = result_reply page_reply.Map (λ mapped. frame) map_error answer
+size_reply (Unmap level page) answer = result_reply page_reply.Unmap (λ frame. (frame, page)) unmap_error answer
+size_reply (UpdateFlags level page flags) answer = result_reply page_reply.Update (λ frame. page) update_error answer
+size_reply (SetFlags at level page flags) answer = result_reply page_reply.TableFlags (λ frame. tt) update_error answer
+size_reply (TranslatePage level page) answer = result_reply page_reply.Frame (λ frame. frame) translate_error answer
+size_reply call answer = None
+
+-- The reply to a call on a page of the size S for the machine's reply, or `None` if the machine never replies to such a call so.
+-- `Some None` stands for a call that isn't allowed.
+abbrev pub size_answer : {S : Type 0} → Call → machine.Reply → Option (Option (SizeReply S))
+size_answer call (machine.Answered answer) = option_map Some (size_reply call answer)
+size_answer call machine.NotAllowed = Some None
+size_answer call r = None
+
+-- The machine's step for a call on a page of the size S: the next state, and the reply, which is `Some None` if the call isn't
+-- allowed.
+abbrev pub size_step : {S : Type 0} → Machine → State → Call → AfterStep (Option (SizeReply S))
+size_step machine state call = let after = step machine state call in record { state = after.state; reply = size_answer call after.reply }
 
 -- A call on a page was executed: what is left is the state after the machine's step, and the reply is the machine's.
-abbrev pub PageStepped : {S Lent : Type 0} → (h : Hierarchy Lent) → Store → (level : ℕ) → PageCall → Option (SizeReply S) → (after : Hierarchy Lent) → (rest : List ℕ) → Type 0
-PageStepped h store level call reply after rest =
-    size_step (machine_with h store) level (state_with h store) call ≡ record { state = state_in h.layout after.memory rest; reply = Some reply }
+abbrev pub PageStepped : {S Lent : Type 0} → (h : Hierarchy Lent) → Store → Call → Option (SizeReply S) → (after : Hierarchy Lent) → (rest : List ℕ) → Type 0
+PageStepped h store call reply after rest =
+    size_step (machine_with h store) (state_with h store) call ≡ record { state = state_in h.layout after.memory rest; reply = Some reply }
 
 -- A call on a page returns no frame, and the frames that are free afterwards keep their words.
 abbrev pub PageLeavesFree : {Lent : Type 0} → (h : Hierarchy Lent) → (pool : List ℕ) → (after : Hierarchy Lent) → (rest : List ℕ) → Type 0
 PageLeavesFree h pool after rest = KeepsFree h.layout h.memory pool [] after.memory rest
 
 -- The hierarchy answers a change of a table entry's flags with this reply, and is `after` then.
-abbrev pub SetsFlags : {S Lent : Type 0} → Hierarchy Lent → (level : ℕ) → PageCall → SizeReply S → (after : Hierarchy Lent) → Type 0
-SetsFlags h level call reply after = (told : Result Unit FlagUpdateError) × (reply ≡ TableFlags told) × AnswersFlags h level call told after
+abbrev pub SetsFlags : {S Lent : Type 0} → Hierarchy Lent → Call → SizeReply S → (after : Hierarchy Lent) → Type 0
+SetsFlags h call reply after = (told : Result Unit FlagUpdateError) × (reply ≡ page_reply.TableFlags told) × DoesFlags h call told after
 
 -- With four levels there are no flags of level five, so such flags would make four equal to five.
 pub no_flags : (flags : Infallible) → let four : ℕ = 4 in four ≡ 5

@@ -39,12 +39,13 @@ pub fn run_flushed<
     recorder: &mut FlushRecorder,
 ) -> Result<(), AllocError>
     requires { StoreFits (M.hierarchy mapper.old) (store_of F.FrameStore frames.old) }
-    ensures ran { OnOk result (Ran (to_call P5.bits) (M.hierarchy mapper.old)
+    ensures ran { OnOk result (Ran (to_call L.LEVELS P5.bits) (M.hierarchy mapper.old)
         (store_of F.FrameStore frames.old)
         calls.now replies.old.items replies.new.items (M.hierarchy mapper.new) (F.supply frames.new)) }
     ensures flushed { OnOk result (
-        Flushed (to_call P5.bits) (M.hierarchy mapper.old) (store_of F.FrameStore frames.old) calls.now
-        replies.old.items replies.new.items recorder.old.items recorder.new.items (M.hierarchy mapper.new)) }
+        Flushed (to_call L.LEVELS P5.bits) (M.hierarchy mapper.old) (store_of F.FrameStore frames.old)
+        calls.now replies.old.items replies.new.items recorder.old.items recorder.new.items
+        (M.hierarchy mapper.new)) }
     ensures unchanged { OnErr result ((replies.new ≡ replies.old) × (recorder.new ≡ recorder.old)
         × (mapper.new ≡ mapper.old) × (frames.new ≡ frames.old)) }
     ensures needs_room { OnErr result ((vec_capacity replies.old < vec_len replies.old + length calls.now)

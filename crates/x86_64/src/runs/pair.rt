@@ -43,12 +43,12 @@ pub fn run_pair<
     pool_b: &mut FramePool,
     calls: &[CallIn<L, P5>],
 ) -> Result<Vec<ReplyIn<L>>, AllocError>
-    requires one { MayRun (to_call P5.bits) L.LEVELS calls.now (A.hierarchy a.old) pool_a.old }
-    requires other { MayRun (to_call P5.bits) L.LEVELS calls.now (B.hierarchy b.old) pool_b.old }
+    requires one { MayRun (to_call L.LEVELS P5.bits) L.LEVELS calls.now (A.hierarchy a.old) pool_a.old }
+    requires other { MayRun (to_call L.LEVELS P5.bits) L.LEVELS calls.now (B.hierarchy b.old) pool_b.old }
     requires alike { AreAlike L.LEVELS (A.hierarchy a.old) pool_a.old (B.hierarchy b.old) pool_b.old }
-    ensures one { AfterRun (to_call P5.bits) calls.now result (A.hierarchy a.old) pool_a.old
+    ensures one { AfterRun (to_call L.LEVELS P5.bits) calls.now result (A.hierarchy a.old) pool_a.old
         (A.hierarchy a.new) pool_a.new }
-    ensures other { AfterRun (to_call P5.bits) calls.now result (B.hierarchy b.old) pool_b.old
+    ensures other { AfterRun (to_call L.LEVELS P5.bits) calls.now result (B.hierarchy b.old) pool_b.old
         (B.hierarchy b.new) pool_b.new }
     ensures alike { AreAlike L.LEVELS (A.hierarchy a.new) pool_a.new (B.hierarchy b.new) pool_b.new }
     ensures refused { OnErr result ((0 < length calls.now)
