@@ -1,13 +1,11 @@
 -- Calls on pages that are made if they are allowed.
 use Rattle.std.specs.Prelude.{◌≡◌, ℕ, Bool, true, List, ◌∷◌, [], Some, Result, IfOk, IsTrue}
 use Rattle.x86_64_mappers.specs.Ranges.{MapRange, MayMapRange, range_of}
-use Rattle.x86_64_model.specs.Call.{Call, MapTo, MapToWithTableFlags, Unmap}
+use Rattle.x86_64_model.specs.Call.{Call, MapTo, MapToWithTableFlags, Unmap, CleanUp}
 use Rattle.x86_64_model.specs.Entry.{present}
 use Rattle.x86_64_model.specs.Hierarchy.{Hierarchy, ArrivesIn, DoesMap, allows, map_outcome, paths}
 use Rattle.x86_64_model.specs.MapRule.{parent_part}
 use Rattle.x86_64_model.specs.Refusal.{Answer, Done}
-use Rattle.x86_64.specs.Asked as list
-use Rattle.x86_64.specs.Asked.{MapperCall}
 
 -- If the hierarchy allows the map of a page, the map has this answer, and it leaves the hierarchy `after` and the rest of the supply.
 abbrev pub MapsIfAllowed : {Lent : Type 0} → (h : Hierarchy Lent) → (supply : List ℕ) → Call → Answer → (after : Hierarchy Lent) → (rest : List ℕ) → Type 0
@@ -42,6 +40,6 @@ MayMapBuffer h range count = (present range.parent_flags ≡ true) × MayMapRang
 
 -- ---- a list of calls
 
--- Three calls: the first maps a page, the second unmaps it, and the third returns the frames of all empty tables.
-abbrev pub three_calls : (page frame flags : ℕ) → List MapperCall
-three_calls page frame given = list.Of4KiB (MapTo page frame given) ∷ list.Of4KiB (Unmap page) ∷ list.CleanUp ∷ []
+-- Three calls, with four levels: the first maps a page, the second unmaps it, and the third returns the frames of all empty tables.
+abbrev pub three_calls : (page frame flags : ℕ) → List Call
+three_calls page frame given = MapTo 1 page frame given ∷ Unmap 1 page ∷ CleanUp 0 0xffff_ffff_ffff ∷ []
