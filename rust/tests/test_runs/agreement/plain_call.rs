@@ -13,9 +13,7 @@ pub fn plain_of(levels: usize, call: CallRow) -> PlainCall {
         CallRow::Giant(call) => page_call(3, call),
         CallRow::Translate(position) => PlainCall::Translate { position },
         CallRow::TranslateAddr(position) => PlainCall::TranslateAddress { position },
-        CallRow::CleanUp => {
-            PlainCall::CleanUp { low: 0, high: if levels == 4 { 0xffff_ffff_ffff } else { 0x01ff_ffff_ffff_ffff } }
-        }
+        CallRow::CleanUp => PlainCall::CleanUp { low: 0, high: if levels == 4 { 0xffff_ffff_ffff } else { 0x01ff_ffff_ffff_ffff } },
         CallRow::CleanUpRange(low, last) => PlainCall::CleanUp { low, high: last | 0xfff },
     }
 }
