@@ -1,6 +1,6 @@
 -- What `run_call` ensures lets a call happen between a kernel and a processor.
 use Rattle.std.proofs.Common.{◌≡◌, refl, sym, subst}
-use Rattle.x86_64_model.specs.Call.{Call, MapTo, MapToWithTableFlags, IdentityMap, Unmap, UpdateFlags, SetFlags, TranslatePage, Translate, TranslateAddress, CleanUp}
+use Rattle.x86_64_model.specs.Call.{Call, CleanUp}
 use Rattle.x86_64_model.specs.Lists.{In}
 use Rattle.x86_64_model.specs.Machine.{Machine, State}
 use Rattle.x86_64_model.specs.Hierarchy.{◌laid_in◌, machine_of, state_in, words}
@@ -10,16 +10,8 @@ use Rattle.x86_64.specs.CallEvents.{RunCallsAreEvents}
 use Rattle.x86_64.specs.FreeFrames.{back_by}
 
 same_back : (m : Machine) (s : State) (call : Call) → freed_by m.levels s call ≡ back_by m s call
-same_back m s (MapTo q frame given) = refl
-same_back m s (MapToWithTableFlags q frame given more) = refl
-same_back m s (IdentityMap level frame given) = refl
-same_back m s (Unmap q) = refl
-same_back m s (UpdateFlags q given) = refl
-same_back m s (SetFlags level q given) = refl
-same_back m s (TranslatePage q) = refl
-same_back m s (Translate p) = refl
-same_back m s (TranslateAddress p) = refl
 same_back m s (CleanUp low high) = refl
+same_back m s call = refl
 
 pub run_calls_are_events : RunCallsAreEvents
 run_calls_are_events l take_back serves m n pool rest call step free fits =

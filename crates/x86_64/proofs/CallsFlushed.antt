@@ -3,6 +3,7 @@ use Rattle.std.proofs.Common.{zero, suc, inl, inr, ◌≡◌, ◌++◌, ℕ, Boo
 use Rattle.std.proofs.lemmas.Bool.{and_from}
 use Rattle.std.proofs.lemmas.List.{append-nil}
 use Rattle.x86_64_model.specs.Call as machine
+use Rattle.x86_64_model.specs.Call.{Call, MapTo, MapToWithTableFlags, IdentityMap, Unmap, UpdateFlags, SetFlags, TranslatePage, Translate, TranslateAddress, CleanUp}
 use Rattle.x86_64_model.specs.Flushing.{Due, PageDue, TablesDue, WindowDue, BelowDue, flush_after, freed_by, if_accepted, if_allowed, if_window, below_due}
 use Rattle.x86_64_model.specs.Lists.{In}
 use Rattle.x86_64_model.specs.Machine.{step}
@@ -11,8 +12,7 @@ use Rattle.x86_64_model.specs.Path.{begins, path_at, is_small}
 use Rattle.x86_64_model.specs.Position.{page_path}
 use Rattle.x86_64_model.specs.Refusal.{Done, Refused}
 use Rattle.x86_64_model.specs.Window.{Window}
-use Rattle.x86_64.specs.Asked.{PageCall, MapTo, MapToWithTableFlags, IdentityMap, Unmap, UpdateFlags, SetFlags, TranslatePage, MapperCall, Of4KiB, Of2MiB, Of1GiB, Translate, TranslateAddr, CleanUp, CleanUpRange, page_call, machine_call}
-use Rattle.x86_64.specs.Calls.{page_of, page_of_call}
+use Rattle.x86_64.specs.Calls.{page_of_call}
 use Rattle.x86_64.specs.FlushesDue.{flush_for, executed, settles_any, InPages}
 use Rattle.x86_64.specs.Processors.{IsReachable, ArisesByFlushedCalls}
 use Rattle.x86_64.specs.Replies.{Reply}
@@ -74,29 +74,23 @@ module _ (L : ℕ) (window : Option Window) (freed : List ℕ) (r : machine.Repl
   changed level page f small q frame (inl e) = subst (λ q. begins q (page_path L page) ≡ true) (ap page_of_due e) (begins_taken _ (page_path L page))
   changed level page f small q frame (inr i) = absurd (none_in_window small window q frame i)
 
-  in_page : (level : ℕ) (call : PageCall) → InPages L (flush_after L window freed (page_call L level call) r) (unwrap_or (page_of L call) 0)
-  in_page level (MapTo page start flags) q frame i = absurd i
-  in_page level (MapToWithTableFlags page start flags more) q frame i = absurd (allowed r _ (none_marked _ window _) q frame i)
-  in_page level (IdentityMap start flags) q frame i = absurd i
-  in_page level (Unmap page) q frame i = accepted _ page (λ f. changed level page f (is_small L (path_at L level page))) q frame i
-  in_page level (UpdateFlags page flags) q frame i = accepted _ page (λ f. changed level page f (is_small L (path_at L level page))) q frame i
-  in_page level (SetFlags at page flags) q frame i = accepted _ page (λ f q frame i. absurd (none_below window _ q frame i)) q frame i
-  in_page level (TranslatePage page) q frame i = absurd i
-
   cleaned : NoPage (TablesDue freed ∷ if_window window)
   cleaned q frame (inl e) = cc
   cleaned q frame (inr i) = none_in_window false window q frame i
 
-  in_pages : (call : MapperCall) → InPages L (flush_after L window freed (machine_call L call) r) (unwrap_or (page_of_call L call) 0)
-  in_pages (Of4KiB call) q frame i = in_page 1 call q frame i
-  in_pages (Of2MiB call) q frame i = in_page 2 call q frame i
-  in_pages (Of1GiB call) q frame i = in_page 3 call q frame i
+  in_pages : (call : Call) → InPages L (flush_after L window freed call r) (unwrap_or (page_of_call L call) 0)
+  in_pages (MapTo level page start flags) q frame i = absurd i
+  in_pages (MapToWithTableFlags level page start flags more) q frame i = absurd (allowed r _ (none_marked _ window _) q frame i)
+  in_pages (IdentityMap level start flags) q frame i = absurd i
+  in_pages (Unmap level page) q frame i = accepted _ page (λ f. changed level page f (is_small L (path_at L level page))) q frame i
+  in_pages (UpdateFlags level page flags) q frame i = accepted _ page (λ f. changed level page f (is_small L (path_at L level page))) q frame i
+  in_pages (SetFlags at level page flags) q frame i = accepted _ page (λ f q frame i. absurd (none_below window _ q frame i)) q frame i
+  in_pages (TranslatePage level page) q frame i = absurd i
   in_pages (Translate p) q frame i = absurd i
-  in_pages (TranslateAddr p) q frame i = absurd i
-  in_pages CleanUp q frame i = absurd (cleaned q frame i)
-  in_pages (CleanUpRange low high) q frame i = absurd (cleaned q frame i)
+  in_pages (TranslateAddress p) q frame i = absurd i
+  in_pages (CleanUp low high) q frame i = absurd (cleaned q frame i)
 
-  pub some_in_pages : (loses : Bool) (call : MapperCall) → InPages L (cond loses (flush_after L window freed (machine_call L call) r) []) (unwrap_or (page_of_call L call) 0)
+  pub some_in_pages : (loses : Bool) (call : Call) → InPages L (cond loses (flush_after L window freed call r) []) (unwrap_or (page_of_call L call) 0)
   some_in_pages true call q frame i = in_pages call q frame i
   some_in_pages false call q frame i = absurd i
 
@@ -108,14 +102,13 @@ none_left P (d ∷ due) each = ap (λ b. cond (not b) (d ∷ filter (λ d. not (
 
 pub arises_by_flushed_calls : ArisesByFlushedCalls
 arises_by_flushed_calls l take_back serves m n pool rest call reply loses is fits stepped free kept kept_all flush tells before first second after arises early late left =
-    let asked = machine_call l.levels call in
-    let r = (step (machine_of l take_back) (state_in l m pool) asked).reply in
-    let freed = freed_by l.levels (state_in l m pool) asked in
-    let due = cond loses (flush_after l.levels l.window freed asked r) [] in
+    let r = (step (machine_of l take_back) (state_in l m pool) call).reply in
+    let freed = freed_by l.levels (state_in l m pool) call in
+    let due = cond loses (flush_after l.levels l.window freed call r) [] in
     let p = unwrap_or (page_of_call l.levels call) 0 in
     let ready = arises_by_caching l take_back serves m pool [] before first arises early in
     let called : IsReachable l take_back serves n rest first (due ++ []) =
-    arises_by_calls l take_back serves m n pool rest first [] asked loses ready is (λ f d i. absurd d.1) (λ q r frame i. absurd i) kept_all fits (ap (λ (a : AfterStep Reply). a.state) stepped) free kept in
+    arises_by_calls l take_back serves m n pool rest first [] call loses ready is (λ f d i. absurd d.1) (λ q r frame i. absurd i) kept_all fits (ap (λ (a : AfterStep Reply). a.state) stepped) free kept in
     let waiting = arises_by_caching l take_back serves n rest due first second (subst (λ due. IsReachable l take_back serves n rest first due) (append-nil due) called) late in
     let is_told : flush ≡ flush_for due = tells l.window freed r refl (ap (λ (a : AfterStep Reply). a.reply) stepped) in
     subst (λ due. IsReachable l take_back serves n rest after due) (none_left (settles_any l.levels (executed (flush_for due) p)) due ((flushes_settle l.levels due p).settled (some_in_pages l.levels l.window freed r loses call)))

@@ -1,5 +1,5 @@
 -- The result of a clean up is the machine's step.
-use Rattle.std.proofs.Common.{◌≡◌, ℕ, ◌-◌, Bool, List, Some, inr, sym, ap, ◌∙◌, subst}
+use Rattle.std.proofs.Common.{◌≡◌, ℕ, Bool, List, Some, inr, sym, ap, ◌∙◌, subst}
 use Rattle.x86_64_model.specs.Call as machine
 use Rattle.x86_64_model.specs.Entry.{IsParentFlags}
 use Rattle.x86_64_model.specs.Machine.{AfterCall, do_call, step}
@@ -8,8 +8,6 @@ use Rattle.x86_64_model.specs.Hierarchy.{◌laid_in◌, Hierarchy, PoolFits, May
 use Rattle.x86_64_model.specs.Pool.{TakesBack, with_returned}
 use Rattle.x86_64_model.proofs.Lemmas.Machines.Fitting.{ready_of_fits, may_clean_up}
 use Rattle.x86_64_model.proofs.Lemmas.Machines.Owners.{clean_up_leads}
-use Rattle.x86_64_model.specs.Position.{position_count}
-use Rattle.x86_64.specs.Asked as asked
 use Rattle.x86_64.specs.declared.call_values.MapperReply.TheVariants as reply
 use Rattle.x86_64.specs.FreeFrames.{KeepsFree}
 use Rattle.x86_64.specs.Replies.{reply_of}
@@ -27,15 +25,9 @@ module _ {Lent : Type 0} (h : Hierarchy Lent) (serves : ℕ → Bool) (pool held
     one = ap (λ fs. do_call (machine_of h.layout take_back) (state_in h.layout h.memory fs) (machine.CleanUp low high)) same ∙ clean_up_leads h take_back held low high after left cleans
         ∙ ap (λ fs. record { state = state_in after.layout after.memory fs; reply = machine.Cleaned }) (sym last) ∙ ap (λ l. record { state = state_in l after.memory rest; reply = machine.Cleaned }) cleans.layout
 
-    pub range_cleaned : step_by (machine_of h.layout take_back) (state_in h.layout h.memory pool) (asked.CleanUpRange low high)
+    pub cleaned_up : step_by (machine_of h.layout take_back) (state_in h.layout h.memory pool) (machine.CleanUp low high)
         ≡ record { state = state_in h.layout after.memory rest; reply = Some reply.Cleaned }
-    range_cleaned = ap (λ (x : AfterCall). record { state = x.state; reply = reply_of (asked.CleanUpRange low high) x.reply }) one
-
-    pub all_cleaned : machine.CleanUp low high ≡ machine.CleanUp 0 (position_count h.layout.levels - 1)
-        → step_by (machine_of h.layout take_back) (state_in h.layout h.memory pool) asked.CleanUp
-        ≡ record { state = state_in h.layout after.memory rest; reply = Some reply.Cleaned }
-    all_cleaned all = ap (λ (x : AfterCall). record { state = x.state; reply = reply_of asked.CleanUp x.reply })
-        (ap (step (machine_of h.layout take_back) (state_in h.layout h.memory pool)) (sym all) ∙ one)
+    cleaned_up = ap (λ (x : AfterCall). record { state = x.state; reply = reply_of (machine.CleanUp low high) x.reply }) one
 
     pub kept_cleaned : IsParentFlags h.layout.added_flags → TakesBack take_back → (serves_after : ℕ → Bool) → serves_after ≡ serves
         → Keeps h (record { frames = pool; serves = serves; take_back = take_back }) after (record { frames = rest; serves = serves_after; take_back = take_back })

@@ -1,8 +1,9 @@
 -- What has to be flushed after a call is told by its reply, settles all that is due, and is the least that does.
-use Rattle.std.proofs.Common.{◌≡◌, inl, inr, ◌<◌, ◌≤◌, ℕ, nat_lt, Bool, true, false, cond, List, [], ◌∷◌, take, Option, Some, None, option_map, Result, Err, refl, sym, ap, ◌∙◌, subst, arith, eq-eqb, ne_eqb}
+use Rattle.std.proofs.Common.{◌≡◌, inl, inr, ◌<◌, ◌≤◌, ℕ, nat_lt, Bool, true, false, cond, List, [], ◌∷◌, take, Option, Some, None, option_map, Err, refl, sym, ap, ◌∙◌, subst, arith, eq-eqb, ne_eqb}
 use Rattle.std.specs.Option.{is_some}
 use Rattle.std.proofs.lemmas.Option.{same_Some}
 use Rattle.x86_64_model.specs.Call as machine
+use Rattle.x86_64_model.specs.Call.{Call, MapTo, MapToWithTableFlags, IdentityMap, Unmap, UpdateFlags, SetFlags, TranslatePage, CleanUp}
 use Rattle.x86_64_model.specs.Entry.{no_execute}
 use Rattle.x86_64_model.specs.Flushing.{Due, PageDue, TablesDue, WindowDue, BelowDue, Invlpg, flush_after, if_window, page_due, below_due}
 use Rattle.x86_64_model.specs.Lists.{In}
@@ -13,16 +14,16 @@ use Rattle.x86_64_model.specs.Window.{Window}
 use Rattle.x86_64_page.specs.declared.page.Size4KiB.{Size4KiB as Small}
 use Rattle.x86_64_page.specs.declared.page.Size2MiB.{Size2MiB as Large}
 use Rattle.x86_64_page.specs.declared.page.Size1GiB.{Size1GiB as Giant}
-use Rattle.x86_64_tables.specs.declared.translation.TranslateResult.{TranslateResult}
 use Rattle.x86_64_mappers.proofs.Way.EntryPaths.{path_length}
-use Rattle.x86_64.specs.Asked.{PageCall, MapTo, MapToWithTableFlags, IdentityMap, Unmap, UpdateFlags, SetFlags, TranslatePage, MapperCall, Of4KiB, Of2MiB, Of1GiB, Translate, TranslateAddr, CleanUp, CleanUpRange, page_call, machine_call}
 use Rattle.x86_64.specs.FlushesDue.{told_of, rank, larger, flush_for, executed, settles_any, FlushesSettle, FlushesAreLeast}
-use Rattle.x86_64.specs.Replies.{SizeReply, Reply, map_error, unmap_error, update_error, translate_error, size_answer, translate_result, sized, reply_of}
-use Rattle.x86_64.specs.declared.call_values.PageReply.TheVariants as size_reply
+use Rattle.x86_64.specs.Replies.{SizeReply, Reply, map_error, unmap_error, update_error, translate_error, reply_of}
+use Rattle.x86_64.specs.declared.call_values.PageReply.TheVariants as page_reply
 use Rattle.x86_64.specs.declared.call_values.MapperReply.TheVariants as reply
 use Rattle.x86_64.specs.declared.flushing.Flush.{Flush}
 use Rattle.x86_64.specs.declared.flushing.Flush.TheVariants.{Nothing, Tables, Page, Everything}
-use Rattle.x86_64.specs.private.FlushReplies.{page_takes, takes, page_flush}
+use Rattle.x86_64.specs.private.FlushReplies.{takes, page_flush}
+use Rattle.x86_64.specs.private.Served.{size_reply}
+use Rattle.x86_64.proofs.ReplyCases.{IsOnPage, reply_cases}
 
 -- ---- by the reply
 
@@ -35,10 +36,6 @@ flush_by takes shown (reply.Translate result) = Nothing
 flush_by takes shown (reply.Address address) = Nothing
 flush_by takes shown reply.Cleaned = cond shown Everything Tables
 flush_by takes shown reply.NotAllowed = Nothing
-
-abbrev flush_where : {S : Type 0} → (takes_execute shown : Bool) → Option (SizeReply S) → Flush
-flush_where takes shown None = Nothing
-flush_where takes shown (Some answer) = page_flush takes shown answer
 
 -- all items below a path are due
 below : (q : List ℕ) (window : Option Window) → flush_for (below_due window q) ≡ Everything
@@ -59,96 +56,51 @@ changed q frame true window = refl
 changed q frame false None = refl
 changed q frame false (Some w) = refl
 
-not_allowed : (L level : ℕ) (window : Option Window) (freed : List ℕ) (call : PageCall) → flush_for (flush_after L window freed (page_call L level call) machine.NotAllowed) ≡ Nothing
-not_allowed L level window freed (MapTo page frame flags) = refl
-not_allowed L level window freed (MapToWithTableFlags page frame flags more) = refl
-not_allowed L level window freed (IdentityMap frame flags) = refl
-not_allowed L level window freed (Unmap page) = refl
-not_allowed L level window freed (UpdateFlags page flags) = refl
-not_allowed L level window freed (SetFlags at page flags) = refl
-not_allowed L level window freed (TranslatePage page) = refl
+not_allowed : (L : ℕ) (window : Option Window) (freed : List ℕ) (call : Call) (level : ℕ) → IsOnPage level call → flush_for (flush_after L window freed call machine.NotAllowed) ≡ Nothing
+not_allowed L window freed (CleanUp low high) level on = absurd on
+not_allowed L window freed call level on = refl
 
-module _ {S : Type 0} (shown : Bool) where
-  by_answer : (takes : Bool) (f : Flush) (answer : SizeReply S) → f ≡ page_flush takes shown answer → (o : Option (SizeReply S)) → Some (Some answer) ≡ Some o → f ≡ flush_where takes shown o
-  by_answer takes f answer tells o e = tells ∙ ap (flush_where takes shown) (same_Some _ _ e)
+module _ {S : Type 0} (takes shown : Bool) where
+  by_answer : (f : Flush) (told answer : SizeReply S) → f ≡ page_flush takes shown told → Some told ≡ Some answer → f ≡ page_flush takes shown answer
+  by_answer f told answer tells e = tells ∙ ap (page_flush takes shown) (same_Some _ _ e)
 
-  by_refusal : {X E : Type 0} (takes : Bool) (f : Flush) (wrap : Result X E → SizeReply S) (error : Option E) → ((w : E) → f ≡ page_flush takes shown (wrap (Err w)))
-      → (o : Option (SizeReply S)) → option_map Some (option_map wrap (option_map Err error)) ≡ Some o → f ≡ flush_where takes shown o
-  by_refusal takes f wrap None tells o e = cc
-  by_refusal takes f wrap (Some w) tells o e = by_answer takes f (wrap (Err w)) (tells w) o e
+  by_refusal : {E : Type 0} (f : Flush) (wrap : E → SizeReply S) (error : Option E) → ((w : E) → f ≡ page_flush takes shown (wrap w)) → (answer : SizeReply S) → option_map wrap error ≡ Some answer → f ≡ page_flush takes shown answer
+  by_refusal f wrap None tells answer e = cc
+  by_refusal f wrap (Some w) tells answer e = by_answer f (wrap w) answer (tells w) e
 
 module _ (S : Type 0) (L level : ℕ) (small : Bool) (is : (page : ℕ) → is_small L (path_at L level page) ≡ small) (window : Option Window) (freed : List ℕ) where
   abbrev shown : Bool
   shown = cond small false (is_some window)
 
-  changed_at : (page frame : ℕ) → flush_for (page_due L window (path_at L level page) frame) ≡ cond shown Everything Page
-  changed_at page frame = ap (λ b. flush_for (PageDue (path_at L level page) frame ∷ cond b [] (if_window window))) (is page) ∙ changed (path_at L level page) frame small window
+  changed_at : (l page frame : ℕ) → l ≡ level → flush_for (page_due L window (path_at L l page) frame) ≡ cond shown Everything Page
+  changed_at l page frame on = ap (λ b. flush_for (PageDue (path_at L l page) frame ∷ cond b [] (if_window window))) (ap (λ l. is_small L (path_at L l page)) on ∙ is page) ∙ changed (path_at L l page) frame small window
 
-  answer_tells : (call : PageCall) (a : Answer) (o : Option (SizeReply S)) → size_answer call (machine.Answered a) ≡ Some o
-      → flush_for (flush_after L window freed (page_call L level call) (machine.Answered a)) ≡ flush_where (page_takes call) shown o
-  answer_tells (MapTo page frame flags) (Done f) = by_answer shown false Nothing _ refl
-  answer_tells (MapTo page frame flags) (Refused why) = by_refusal shown false Nothing size_reply.Map (map_error why) (λ w. refl)
-  answer_tells (MapToWithTableFlags page frame flags more) (Done f) = by_answer shown (no_execute more) _ _ (marked (no_execute more) (take 1 (path_at L level page)) window)
-  answer_tells (MapToWithTableFlags page frame flags more) (Refused why) = by_refusal shown (no_execute more) _ size_reply.Map (map_error why) (λ w. marked (no_execute more) (take 1 (path_at L level page)) window)
-  answer_tells (IdentityMap frame flags) (Done f) = by_answer shown false Nothing _ refl
-  answer_tells (IdentityMap frame flags) (Refused why) = by_refusal shown false Nothing size_reply.Map (map_error why) (λ w. refl)
-  answer_tells (Unmap page) (Done f) = by_answer shown false _ _ (changed_at page f)
-  answer_tells (Unmap page) (Refused why) = by_refusal shown false Nothing size_reply.Unmap (unmap_error why) (λ w. refl)
-  answer_tells (UpdateFlags page flags) (Done f) = by_answer shown false _ _ (changed_at page f)
-  answer_tells (UpdateFlags page flags) (Refused why) = by_refusal shown false Nothing size_reply.Update (update_error why) (λ w. refl)
-  answer_tells (SetFlags at page flags) (Done f) = by_answer shown false _ _ (below (front_at L at (path_at L level page)) window)
-  answer_tells (SetFlags at page flags) (Refused why) = by_refusal shown false Nothing size_reply.TableFlags (update_error why) (λ w. refl)
-  answer_tells (TranslatePage page) (Done f) = by_answer shown false Nothing _ refl
-  answer_tells (TranslatePage page) (Refused why) = by_refusal shown false Nothing size_reply.Frame (translate_error why) (λ w. refl)
+  answer_tells : (call : Call) → IsOnPage level call → (a : Answer) (answer : SizeReply S) → size_reply call a ≡ Some answer → flush_for (flush_after L window freed call (machine.Answered a)) ≡ page_flush (takes call) shown answer
+  answer_tells (MapTo l page frame flags) on (Done f) answer = by_answer false shown Nothing _ answer refl
+  answer_tells (MapTo l page frame flags) on (Refused why) = by_refusal false shown Nothing (λ w. page_reply.Map (Err w)) (map_error why) (λ w. refl)
+  answer_tells (MapToWithTableFlags l page frame flags more) on (Done f) answer = by_answer (no_execute more) shown _ _ answer (marked (no_execute more) (take 1 (path_at L l page)) window)
+  answer_tells (MapToWithTableFlags l page frame flags more) on (Refused why) = by_refusal (no_execute more) shown _ (λ w. page_reply.Map (Err w)) (map_error why) (λ w. marked (no_execute more) (take 1 (path_at L l page)) window)
+  answer_tells (IdentityMap l frame flags) on (Done f) answer = by_answer false shown Nothing _ answer refl
+  answer_tells (IdentityMap l frame flags) on (Refused why) = by_refusal false shown Nothing (λ w. page_reply.Map (Err w)) (map_error why) (λ w. refl)
+  answer_tells (Unmap l page) on (Done f) answer = by_answer false shown _ _ answer (changed_at l page f on)
+  answer_tells (Unmap l page) on (Refused why) = by_refusal false shown Nothing (λ w. page_reply.Unmap (Err w)) (unmap_error why) (λ w. refl)
+  answer_tells (UpdateFlags l page flags) on (Done f) answer = by_answer false shown _ _ answer (changed_at l page f on)
+  answer_tells (UpdateFlags l page flags) on (Refused why) = by_refusal false shown Nothing (λ w. page_reply.Update (Err w)) (update_error why) (λ w. refl)
+  answer_tells (SetFlags at l page flags) on (Done f) answer = by_answer false shown _ _ answer (below (front_at L at (path_at L l page)) window)
+  answer_tells (SetFlags at l page flags) on (Refused why) = by_refusal false shown Nothing (λ w. page_reply.TableFlags (Err w)) (update_error why) (λ w. refl)
+  answer_tells (TranslatePage l page) on (Done f) answer = by_answer false shown Nothing _ answer refl
+  answer_tells (TranslatePage l page) on (Refused why) = by_refusal false shown Nothing (λ w. page_reply.Frame (Err w)) (translate_error why) (λ w. refl)
+  answer_tells call on a answer e = absurd on
 
-  size_tells : (call : PageCall) (r : machine.Reply) (o : Option (SizeReply S)) → size_answer call r ≡ Some o → flush_for (flush_after L window freed (page_call L level call) r) ≡ flush_where (page_takes call) shown o
-  size_tells call (machine.Answered a) o e = answer_tells call a o e
-  size_tells call machine.NotAllowed o e = not_allowed L level window freed call ∙ ap (flush_where (page_takes call) shown) (same_Some _ _ e)
-  size_tells call (machine.Position t) o e = cc
-  size_tells call (machine.Address a) o e = cc
-  size_tells call machine.Cleaned o e = cc
-
-sized_tells : {S : Type 0} (takes shown all : Bool) (wrap : SizeReply S → Reply) → ((a : SizeReply S) → flush_by takes all (wrap a) ≡ page_flush takes shown a) → (f : Flush) (found : Option (Option (SizeReply S)))
-    → ((o : Option (SizeReply S)) → found ≡ Some o → f ≡ flush_where takes shown o) → (x : Reply) → option_map (sized wrap) found ≡ Some x → f ≡ flush_by takes all x
-sized_tells takes shown all wrap is f None tells x e = cc
-sized_tells takes shown all wrap is f (Some None) tells x e = tells None refl ∙ ap (flush_by takes all) (same_Some _ _ e)
-sized_tells takes shown all wrap is f (Some (Some a)) tells x e = tells (Some a) refl ∙ sym (is a) ∙ ap (flush_by takes all) (same_Some _ _ e)
-
-pub told_by : (L : ℕ) → 3 < L → (window : Option Window) (freed : List ℕ) (call : MapperCall) (r : machine.Reply) (x : Reply) → reply_of call r ≡ Some x
-    → flush_for (flush_after L window freed (machine_call L call) r) ≡ flush_by (takes call) (is_some window) x
-told_by L some window freed (Of4KiB call) r x e =
+pub told_by : (L : ℕ) → 3 < L → (window : Option Window) (freed : List ℕ) (call : Call) (r : machine.Reply) (x : Reply) → reply_of call r ≡ Some x
+    → flush_for (flush_after L window freed call r) ≡ flush_by (takes call) (is_some window) x
+told_by L some window freed =
     let small : (page : ℕ) → is_small L (path_at L 1 page) ≡ true = λ page. eq-eqb _ _ (let l = path_length L 1 page (omega arith) (omega (arith, some)) in omega (arith, l)) in
-    sized_tells (page_takes call) false (is_some window) reply.Of4KiB (λ a. refl) _ (size_answer call r) (size_tells Small L 1 true small window freed call r) x e
-told_by L some window freed (Of2MiB call) r x e =
     let large : (page : ℕ) → is_small L (path_at L 2 page) ≡ false = λ page. ne_eqb _ _ (λ s. let l = path_length L 2 page (omega arith) (omega (arith, some)) in omega (arith, l, s, some)) in
-    sized_tells (page_takes call) (is_some window) (is_some window) reply.Of2MiB (λ a. refl) _ (size_answer call r) (size_tells Large L 2 false large window freed call r) x e
-told_by L some window freed (Of1GiB call) r x e =
-    let large : (page : ℕ) → is_small L (path_at L 3 page) ≡ false = λ page. ne_eqb _ _ (λ s. let l = path_length L 3 page (omega arith) (omega (arith, some)) in omega (arith, l, s, some)) in
-    sized_tells (page_takes call) (is_some window) (is_some window) reply.Of1GiB (λ a. refl) _ (size_answer call r) (size_tells Giant L 3 false large window freed call r) x e
-told_by L some window freed (Translate p) (machine.Position t) x e = by (translate_result t) e
-  where
-    by : (o : Option TranslateResult) → option_map reply.Translate o ≡ Some x → Nothing ≡ flush_by false (is_some window) x
-    by None e = cc
-    by (Some result) e = ap (flush_by false (is_some window)) (same_Some _ _ e)
-told_by L some window freed (Translate p) machine.NotAllowed x e = cc
-told_by L some window freed (Translate p) (machine.Answered a) x e = cc
-told_by L some window freed (Translate p) (machine.Address a) x e = cc
-told_by L some window freed (Translate p) machine.Cleaned x e = cc
-told_by L some window freed (TranslateAddr p) (machine.Address a) x e = ap (flush_by false (is_some window)) (same_Some _ _ e)
-told_by L some window freed (TranslateAddr p) machine.NotAllowed x e = cc
-told_by L some window freed (TranslateAddr p) (machine.Answered a) x e = cc
-told_by L some window freed (TranslateAddr p) (machine.Position t) x e = cc
-told_by L some window freed (TranslateAddr p) machine.Cleaned x e = cc
-told_by L some window freed CleanUp machine.Cleaned x e = cleaned window freed ∙ ap (flush_by false (is_some window)) (same_Some _ _ e)
-told_by L some window freed CleanUp machine.NotAllowed x e = cc
-told_by L some window freed CleanUp (machine.Answered a) x e = cc
-told_by L some window freed CleanUp (machine.Position t) x e = cc
-told_by L some window freed CleanUp (machine.Address a) x e = cc
-told_by L some window freed (CleanUpRange low high) machine.Cleaned x e = cleaned window freed ∙ ap (flush_by false (is_some window)) (same_Some _ _ e)
-told_by L some window freed (CleanUpRange low high) machine.NotAllowed x e = cc
-told_by L some window freed (CleanUpRange low high) (machine.Answered a) x e = cc
-told_by L some window freed (CleanUpRange low high) (machine.Position t) x e = cc
-told_by L some window freed (CleanUpRange low high) (machine.Address a) x e = cc
+    let giant : (page : ℕ) → is_small L (path_at L 3 page) ≡ false = λ page. ne_eqb _ _ (λ s. let l = path_length L 3 page (omega arith) (omega (arith, some)) in omega (arith, l, s, some)) in
+    reply_cases (λ call r x. flush_for (flush_after L window freed call r) ≡ flush_by (takes call) (is_some window) x) (not_allowed L window freed)
+    (answer_tells Small L 1 true small window freed) (answer_tells Large L 2 false large window freed) (answer_tells Giant L 3 false giant window freed)
+    (λ p t told e. refl) (λ p a. refl) (λ low high. cleaned window freed)
 
 -- a recursive index is that of a window
 pub is_some_index : (window : Option Window) (index : Option ℕ) → option_map (λ (w : Window). w.index) window ≡ index → is_some index ≡ is_some window

@@ -1,6 +1,7 @@
 -- The words of free frames after calls.
 use Rattle.std.proofs.Common.{◌≡◌, ◌⊎◌, inl, inr, ⊎_elim, ℕ, ◌==◌, Bool, true, false, cond, List, [], ◌∷◌, ◌++◌, None, refl, sym, ap, ◌∙◌, subst, append-nil, append_assoc, eqb-true}
 use Rattle.std.proofs.lemmas.Bool.{eqb-false}
+use Rattle.x86_64_model.specs.Call.{Call, CleanUp}
 use Rattle.x86_64_model.specs.Layout.{Layout}
 use Rattle.x86_64_model.specs.Hierarchy.{◌laid_in◌, KeepsOthers, Owns, PoolFits, paths, words}
 use Rattle.x86_64_model.specs.Lists.{In}
@@ -11,9 +12,9 @@ use Rattle.x86_64_model.proofs.Lemmas.Hierarchies.Elsewhere.{same_word}
 use Rattle.x86_64_model.proofs.Lemmas.Hierarchies.Memories.{covered}
 use Rattle.x86_64_model.proofs.Lemmas.Lists.Members.{in_left, in_right, in_append}
 use Rattle.x86_64_model.proofs.Lemmas.Machines.Fitting.{own_there}
-use Rattle.x86_64.specs.Asked.{PageCall, MapTo, MapToWithTableFlags, IdentityMap, Unmap, UpdateFlags, SetFlags, TranslatePage, page_call}
 use Rattle.x86_64.specs.FreeFrames.{KeepsFree, back_by}
 use Rattle.x86_64.specs.Runs.{machine_of, state_in}
+use Rattle.x86_64.proofs.ReplyCases.{IsOnPage}
 
 -- ---- one call
 
@@ -58,15 +59,10 @@ module _ (l : Layout) (mapping : IsMapping l.places) (serves : ℕ → Bool) (m 
       was f left none = ⊎_elim (λ came. absurd (none came)) (λ i. i) (in_append back pool f ((given_frames take_back gives pool back f).0 (subst (λ fs. In fs f) is left)))
 
 -- a call on a page returns no frame
-pub page_keeps_free : (l : Layout) (m : Memory) (pool : List ℕ) (take_back : List ℕ → ℕ → List ℕ) (level : ℕ) (call : PageCall) (n : Memory) (rest : List ℕ) → KeepsFree l m pool [] n rest
-    → KeepsFree l m pool (back_by (machine_of l take_back) (state_in l m pool) (page_call l.levels level call)) n rest
-page_keeps_free l m pool take_back level (MapTo page frame flags) n rest keeps = keeps
-page_keeps_free l m pool take_back level (MapToWithTableFlags page frame flags parent_flags) n rest keeps = keeps
-page_keeps_free l m pool take_back level (IdentityMap frame flags) n rest keeps = keeps
-page_keeps_free l m pool take_back level (Unmap page) n rest keeps = keeps
-page_keeps_free l m pool take_back level (UpdateFlags page flags) n rest keeps = keeps
-page_keeps_free l m pool take_back level (SetFlags at page flags) n rest keeps = keeps
-page_keeps_free l m pool take_back level (TranslatePage page) n rest keeps = keeps
+pub page_keeps_free : (l : Layout) (m : Memory) (pool : List ℕ) (take_back : List ℕ → ℕ → List ℕ) (level : ℕ) (call : Call) → IsOnPage level call → (n : Memory) (rest : List ℕ) → KeepsFree l m pool [] n rest
+    → KeepsFree l m pool (back_by (machine_of l take_back) (state_in l m pool) call) n rest
+page_keeps_free l m pool take_back level (CleanUp low high) on n rest keeps = absurd on
+page_keeps_free l m pool take_back level call on n rest keeps = keeps
 
 -- ---- calls one after another
 

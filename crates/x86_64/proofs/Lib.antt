@@ -1,4 +1,5 @@
 pub mod AskedCalls
+pub mod ReplyCases
 pub mod CallSteps
 pub mod SizedSteps
 pub mod Keeping

@@ -1,12 +1,12 @@
 -- A change of flags writes one entry at most.
 use Rattle.std.proofs.Common.{◌≡◌, ◌⊎◌, inl, inr, ⊎_elim, ℕ, Bool, true, false, cond, List, Option, Some, None, refl, sym, ap, ◌∙◌, subst, nat_le}
 use Rattle.std.proofs.lemmas.Option.{same_Some}
-use Rattle.x86_64_model.specs.Call.{Call, MapTo, MapToWithTableFlags, IdentityMap, Unmap, UpdateFlags, SetFlags, TranslatePage, Translate, TranslateAddress, CleanUp}
+use Rattle.x86_64_model.specs.Call.{Call, UpdateFlags, SetFlags}
 use Rattle.x86_64_model.specs.Entry.{used}
 use Rattle.x86_64_model.specs.Flushing.{LosesNothing}
 use Rattle.x86_64_model.specs.Machine.{Machine, State, do_call, step}
 use Rattle.x86_64_model.specs.PageRules.{AfterChange, refused_or, update_flags, set_flags}
-use Rattle.x86_64_model.specs.Path.{level_of, front_at}
+use Rattle.x86_64_model.specs.Path.{level_of, front_at, path_at}
 use Rattle.x86_64_model.specs.PathMap.{PathMap, entry, put}
 use Rattle.x86_64_model.specs.Refusal.{Refusal}
 use Rattle.x86_64_model.proofs.Lemmas.Machines.Effects.{step_cases}
@@ -36,16 +36,9 @@ set_changes L E M level q given = either_changes M (front_at L level q) (nat_le 
 
 call_changes : (m : Machine) (s : State) (call : Call) (q : List ℕ) → changed_by m.levels call ≡ Some q → Changes s.paths q (do_call m s call).state.paths
 unfolding do_call
-call_changes m s (UpdateFlags p given) q is = subst (λ q. Changes s.paths q (do_call m s (UpdateFlags p given)).state.paths) (same_Some _ _ is) (update_changes m.levels _ s.paths p given)
-call_changes m s (SetFlags level p given) q is = subst (λ q. Changes s.paths q (do_call m s (SetFlags level p given)).state.paths) (same_Some _ _ is) (set_changes m.levels _ s.paths level p given)
-call_changes m s (MapTo p frame given) q is = cc
-call_changes m s (MapToWithTableFlags p frame given more) q is = cc
-call_changes m s (IdentityMap level frame given) q is = cc
-call_changes m s (Unmap p) q is = cc
-call_changes m s (TranslatePage p) q is = cc
-call_changes m s (Translate p) q is = cc
-call_changes m s (TranslateAddress p) q is = cc
-call_changes m s (CleanUp low high) q is = cc
+call_changes m s (UpdateFlags level page given) q is = subst (λ q. Changes s.paths q (do_call m s (UpdateFlags level page given)).state.paths) (same_Some _ _ is) (update_changes m.levels _ s.paths (path_at m.levels level page) given)
+call_changes m s (SetFlags at level page given) q is = subst (λ q. Changes s.paths q (do_call m s (SetFlags at level page given)).state.paths) (same_Some _ _ is) (set_changes m.levels _ s.paths at (path_at m.levels level page) given)
+call_changes m s call q is = cc
 
 nothing_lost : (e : ℕ) → used e ≡ true → LosesNothing e e
 nothing_lost e is = record {

@@ -4,6 +4,7 @@ use Rattle.std.proofs.Math.Nat.{le_refl}
 use Rattle.std.proofs.Math.Seq.{drop-append_seam}
 use Rattle.std.proofs.lemmas.List.{append-nil, drop_all, drop-append-le, drop-map, length-append, length-map, map-append}
 use Rattle.std.specs.List.{AllByRecursion}
+use Rattle.x86_64_model.specs.Call.{Call}
 use Rattle.x86_64_model.specs.Memory.{Memory}
 use Rattle.x86_64_model.specs.Layout.{Layout}
 use Rattle.x86_64_model.specs.Machine.{Machine, State, state_after}
@@ -12,7 +13,6 @@ use Rattle.x86_64_model.specs.Store.{Store, KeepsPool}
 use Rattle.x86_64_tables.specs.declared.tokens.recorder.FlushItem.{FlushItem}
 use Rattle.x86_64.specs.Flushes.{flush_items_of, items_told}
 use Rattle.x86_64.specs.private.Served.{recorded}
-use Rattle.x86_64.specs.Asked.{MapperCall, machine_call, calls_by}
 use Rattle.x86_64.specs.FreeFrames.{KeepsFree, back_by, all_back}
 use Rattle.x86_64.specs.Runs.{machine_of, state_in, Keeps, AfterStep, step_by, replies_to, appended, UnchangedIfRefused}
 use Rattle.x86_64.specs.Replies.{Reply, changes_nothing}
@@ -25,21 +25,21 @@ recorded_both : (b : Bool) (xs ys : List FlushItem) → recorded b (xs ++ ys) �
 recorded_both true xs ys = refl
 recorded_both false xs ys = refl
 
-module _ {C : Type 0} (asks : C → MapperCall) (m : Machine) (s t : State) (r : Reply) (calls : List C) (i : ℕ) (call : C) (here : i < length calls) (item : call ≡ get_or calls i call) (one : step_by m s (asks call) ≡ record { state = t; reply = Some r }) where
+module _ {C : Type 0} (asks : C → Call) (m : Machine) (s t : State) (r : Reply) (calls : List C) (i : ℕ) (call : C) (here : i < length calls) (item : call ≡ get_or calls i call) (one : step_by m s (asks call) ≡ record { state = t; reply = Some r }) where
   pub told_next : (items more : List Reply) (all : List (Option Reply)) → more ≡ items ++ r ∷ [] → map Some items ++ replies_to asks m s (drop i calls) ≡ all → map Some more ++ replies_to asks m t (drop (i + 1) calls) ≡ all
   told_next items more all e before =
       let rest = drop (i + 1) calls in
       ap (λ xs. map Some xs ++ replies_to asks m t rest) e ∙ ap (λ xs. xs ++ replies_to asks m t rest) (map-append Some items (r ∷ [])) ∙ append_assoc (map Some items) (Some r ∷ []) (replies_to asks m t rest)
       ∙ ap (λ (x : AfterStep Reply). map Some items ++ x.reply ∷ replies_to asks m x.state rest) (sym one) ∙ ap (λ cs. map Some items ++ replies_to asks m s cs) (sym (left calls i call here item)) ∙ before
 
-  pub rest_next : (all : State) → state_after m s (calls_by asks m.levels (drop i calls)) ≡ all → state_after m t (calls_by asks m.levels (drop (i + 1) calls)) ≡ all
-  rest_next all before = ap (λ (x : AfterStep Reply). state_after m x.state (calls_by asks m.levels (drop (i + 1) calls))) (sym one) ∙ ap (λ cs. state_after m s (calls_by asks m.levels cs)) (sym (left calls i call here item)) ∙ before
+  pub rest_next : (all : State) → state_after m s (map asks (drop i calls)) ≡ all → state_after m t (map asks (drop (i + 1) calls)) ≡ all
+  rest_next all before = ap (λ (x : AfterStep Reply). state_after m x.state (map asks (drop (i + 1) calls))) (sym one) ∙ ap (λ cs. state_after m s (map asks cs)) (sym (left calls i call here item)) ∙ before
 
   -- the frames that are returned from here on
-  pub back_next : all_back m s (calls_by asks m.levels (drop i calls)) ≡ back_by m s (machine_call m.levels (asks call)) ++ all_back m t (calls_by asks m.levels (drop (i + 1) calls))
+  pub back_next : all_back m s (map asks (drop i calls)) ≡ back_by m s (asks call) ++ all_back m t (map asks (drop (i + 1) calls))
   back_next =
-      ap (λ cs. all_back m s (calls_by asks m.levels cs)) (left calls i call here item)
-      ∙ ap (λ (x : AfterStep Reply). back_by m s (machine_call m.levels (asks call)) ++ all_back m x.state (calls_by asks m.levels (drop (i + 1) calls))) one
+      ap (λ cs. all_back m s (map asks cs)) (left calls i call here item)
+      ∙ ap (λ (x : AfterStep Reply). back_by m s (asks call) ++ all_back m x.state (map asks (drop (i + 1) calls))) one
 
 -- ---- the replies that were appended
 
@@ -72,22 +72,22 @@ module _ (before items more : List Reply) (r : Reply) (longer : length before �
       let parts = all_parts (λ reply. changes_nothing reply ≡ true) (appended before items) r (subst (AllByRecursion (λ reply. changes_nothing reply ≡ true)) one_appended all) in
       next parts.1 ∙ first parts.0
 
-replies_long : {C : Type 0} (asks : C → MapperCall) (m : Machine) (s : State) (calls : List C) → length (replies_to asks m s calls) ≡ length calls
+replies_long : {C : Type 0} (asks : C → Call) (m : Machine) (s : State) (calls : List C) → length (replies_to asks m s calls) ≡ length calls
 replies_long asks m s [] = refl
 replies_long asks m s (call ∷ calls) = ap suc (replies_long asks m (step_by m s (asks call)).state calls)
 
 -- no call is left
-pub told_last : {C : Type 0} (asks : C → MapperCall) (m : Machine) (s : State) (calls : List C) (i : ℕ) → length calls ≤ i → (items : List Reply) (all : List (Option Reply)) → map Some items ++ replies_to asks m s (drop i calls) ≡ all → map Some items ≡ all
+pub told_last : {C : Type 0} (asks : C → Call) (m : Machine) (s : State) (calls : List C) (i : ℕ) → length calls ≤ i → (items : List Reply) (all : List (Option Reply)) → map Some items ++ replies_to asks m s (drop i calls) ≡ all → map Some items ≡ all
 told_last asks m s calls i past items all told = sym (append-nil (map Some items)) ∙ ap (λ cs. map Some items ++ replies_to asks m s cs) (sym (drop_all i calls past)) ∙ told
 
-pub rest_last : {C : Type 0} (asks : C → MapperCall) (m : Machine) (s : State) (calls : List C) (i : ℕ) → length calls ≤ i → (all : State) → state_after m s (calls_by asks m.levels (drop i calls)) ≡ all → s ≡ all
-rest_last asks m s calls i past all rest = ap (λ cs. state_after m s (calls_by asks m.levels cs)) (sym (drop_all i calls past)) ∙ rest
+pub rest_last : {C : Type 0} (asks : C → Call) (m : Machine) (s : State) (calls : List C) (i : ℕ) → length calls ≤ i → (all : State) → state_after m s (map asks (drop i calls)) ≡ all → s ≡ all
+rest_last asks m s calls i past all rest = ap (λ cs. state_after m s (map asks cs)) (sym (drop_all i calls past)) ∙ rest
 
-pub back_last : {C : Type 0} (asks : C → MapperCall) (m : Machine) (s : State) (calls : List C) (i : ℕ) → length calls ≤ i → all_back m s (calls_by asks m.levels (drop i calls)) ≡ []
-back_last asks m s calls i past = ap (λ cs. all_back m s (calls_by asks m.levels cs)) (drop_all i calls past)
+pub back_last : {C : Type 0} (asks : C → Call) (m : Machine) (s : State) (calls : List C) (i : ℕ) → length calls ≤ i → all_back m s (map asks (drop i calls)) ≡ []
+back_last asks m s calls i past = ap (λ cs. all_back m s (map asks cs)) (drop_all i calls past)
 
 -- one for each call
-pub one_each : {C : Type 0} (asks : C → MapperCall) (m : Machine) (s : State) (calls : List C) (before after : List Reply) → map Some after ≡ map Some before ++ replies_to asks m s calls → length after ≡ length before + length calls
+pub one_each : {C : Type 0} (asks : C → Call) (m : Machine) (s : State) (calls : List C) (before after : List Reply) → map Some after ≡ map Some before ++ replies_to asks m s calls → length after ≡ length before + length calls
 one_each asks m s calls before after told =
     sym (length-map after Some) ∙ ap length told ∙ length-append (map Some before) (replies_to asks m s calls) ∙ ap (λ n. n + length (replies_to asks m s calls)) (length-map before Some) ∙ ap (λ n. length before + n) (replies_long asks m s calls)
 
@@ -117,11 +117,11 @@ room_for_one has_room fewer (suc k) room =
 -- ---- in the same layout
 
 module _ (k l : Layout) (same : l ≡ k) (take_back : List ℕ → ℕ → List ℕ) (n o : Memory) (rest last : List ℕ) where
-  pub step_at : (call : MapperCall) (r : Reply) → step_by (machine_of l take_back) (state_in l n rest) call ≡ record { state = state_in l o last; reply = Some r } → step_by (machine_of k take_back) (state_in k n rest) call ≡ record { state = state_in k o last; reply = Some r }
+  pub step_at : (call : Call) (r : Reply) → step_by (machine_of l take_back) (state_in l n rest) call ≡ record { state = state_in l o last; reply = Some r } → step_by (machine_of k take_back) (state_in k n rest) call ≡ record { state = state_in k o last; reply = Some r }
   step_at call r = subst (λ l. step_by (machine_of l take_back) (state_in l n rest) call ≡ record { state = state_in l o last; reply = Some r }) same
 
-  pub free_at : (call : MapperCall) → KeepsFree l n rest (back_by (machine_of l take_back) (state_in l n rest) (machine_call l.levels call)) o last → KeepsFree k n rest (back_by (machine_of k take_back) (state_in k n rest) (machine_call k.levels call)) o last
-  free_at call = subst (λ l. KeepsFree l n rest (back_by (machine_of l take_back) (state_in l n rest) (machine_call l.levels call)) o last) same
+  pub free_at : (call : Call) → KeepsFree l n rest (back_by (machine_of l take_back) (state_in l n rest) call) o last → KeepsFree k n rest (back_by (machine_of k take_back) (state_in k n rest) call) o last
+  free_at call = subst (λ l. KeepsFree l n rest (back_by (machine_of l take_back) (state_in l n rest) call) o last) same
 
 pub kept_then : {Lent : Type 0} (h now after : Hierarchy Lent) (store left last : Store) → Keeps h store now left → Keeps now left after last → Keeps h store after last
 kept_then h now after store left last one next = record {

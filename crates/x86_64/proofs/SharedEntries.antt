@@ -5,7 +5,7 @@ use Rattle.std.proofs.lemmas.Bool.{and_parts, and_from, or_cases, or_left, or_ri
 use Rattle.std.proofs.lemmas.List.{take_all}
 use Rattle.std.proofs.lemmas.Option.{same_Some}
 use Rattle.std.proofs.Math.Nat.{mod-lt, mul-le-mul_right}
-use Rattle.x86_64_model.specs.Call.{IsCall}
+use Rattle.x86_64_model.specs.Call.{Call, IsCall}
 use Rattle.x86_64_model.specs.CleanUp.{meets}
 use Rattle.x86_64_model.specs.Entry.{IsParentFlags}
 use Rattle.x86_64_model.specs.Laws.Spaces.{CallsKeepRootEntries, SpacesStay}
@@ -24,7 +24,6 @@ use Rattle.x86_64_model.proofs.Lemmas.Machines.Spares.{length_path}
 use Rattle.x86_64_model.proofs.Lemmas.Paths.Pages.{span_pos}
 use Rattle.x86_64_model.proofs.Lemmas.Paths.Starts.{next_size}
 use Rattle.x86_64_mappers.proofs.Way.PagePaths.{start_of_path}
-use Rattle.x86_64.specs.Asked.{MapperCall, machine_call}
 use Rattle.x86_64.specs.Replies.{Reply}
 use Rattle.x86_64.specs.Runs.{AfterStep, Stepped}
 use Rattle.x86_64.specs.Sharing.{KeepsShared, KeepsSpaces}
@@ -178,10 +177,10 @@ module _ (L : ℕ) (some : 1 ≤ L) where
 
 -- a call that leaves the entries of the root at the shared indices keeps the address spaces that share them
 pub spaces_kept : SpacesStay → CallsKeepRootEntries → {Lent : Type 0} (h : Hierarchy Lent) → 3 < h.layout.levels → IsParentFlags h.layout.added_flags → IsMapping h.layout.places
-    → (store : Store) → TakesBack store.take_back → StoreFits h store → (call : MapperCall) → IsCall h.layout.levels (machine_call h.layout.levels call)
+    → (store : Store) → TakesBack store.take_back → StoreFits h store → (call : Call) → IsCall h.layout.levels call
     → (reply : Reply) (after : Hierarchy Lent) (rest : List ℕ) → KeepsPool h.layout store.serves h.memory store.frames after.memory rest → Stepped h store call reply after rest
     → (shared : ℕ → Bool) → KeepsShared h shared call → KeepsSpaces shared h store after rest
 spaces_kept stay root_stays h four adds mapping store gives fits call is reply after rest keeps step shared spares spaces member are =
     stay shared spaces h.layout member mapping (omega (arith, four)) store.serves h.memory after.memory store.frames rest are keeps
-    (root_stays shared h.layout four adds store.take_back gives store.serves h.memory after.memory store.frames rest (machine_call h.layout.levels call ∷ []) (is, tt) fits
+    (root_stays shared h.layout four adds store.take_back gives store.serves h.memory after.memory store.frames rest (call ∷ []) (is, tt) fits
     (sym (ap (λ (x : AfterStep Reply). x.state) step)) (spares, tt))

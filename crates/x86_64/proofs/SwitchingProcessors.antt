@@ -23,7 +23,6 @@ use Rattle.x86_64_model.proofs.Lemmas.Switches.Calls.{calls_may_switch}
 use Rattle.x86_64_model.proofs.Lemmas.Switches.Dues.{in_cond}
 use Rattle.x86_64_model.proofs.Lemmas.Switches.Layouts.{like, is_like, spaces_may_start}
 use Rattle.x86_64_model.proofs.Lemmas.Switches.Runs.{switches_are_flushed}
-use Rattle.x86_64.specs.Asked.{MapperCall, machine_call}
 use Rattle.x86_64.specs.Calls.{page_of_call}
 use Rattle.x86_64.specs.FlushesDue.{InPages, executed, settles_any, flush_for}
 use Rattle.x86_64.specs.FreeFrames.{KeepsFree, back_by}
@@ -80,7 +79,7 @@ reached_first k places mapping levels gives sharing share m pool layouts are may
 -- ---- a call
 
 module _ (k : Kernel) (places : Places) (mapping : IsMapping places) (levels : 0 < k.levels) (gives : TakesBack k.take_back) (sharing : (root other : ℕ) → ℕ → Bool) (m n : Memory) (pool rest : List ℕ) (layouts : List Layout) (one : Layout)
-    (call : MapperCall) (reply : Reply) (loses : Bool) (reaches : ℕ → Bool) (everywhere : Bool) (runs : RunsOn k places sharing m pool n rest layouts one call reply loses reaches everywhere) where
+    (call : Call) (reply : Reply) (loses : Bool) (reaches : ℕ → Bool) (everywhere : Bool) (runs : RunsOn k places sharing m pool n rest layouts one call reply loses reaches everywhere) where
   -- the layout has the kernel's number of levels and its mapping
   alike : one ≡ like k places one
   alike = is_like k places mapping levels sharing runs.all_share m pool layouts runs.are runs.before one runs.there
@@ -88,24 +87,21 @@ module _ (k : Kernel) (places : Places) (mapping : IsMapping places) (levels : 0
   abbrev l : Layout
   l = like k places one
 
-  abbrev asked : Call
-  asked = machine_call k.levels call
-
   abbrev from : State
   from = state_in l m pool
 
-  stepped : (step (machine_of l k.take_back) from asked).state ≡ state_in l n rest
+  stepped : (step (machine_of l k.take_back) from call).state ≡ state_in l n rest
   stepped = ap (λ (a : AfterStep Reply). a.state)
       (subst (λ (l : Layout). step_by (machine_of l k.take_back) (state_in l m pool) call ≡ record { state = state_in l n rest; reply = Some reply }) alike runs.steps)
 
   kept : KeepsPool l k.serves m pool n rest
   kept = subst (λ (l : Layout). KeepsPool l k.serves m pool n rest) alike runs.keeps
 
-  loses_nothing : loses ≡ false → NoneLoses (machine_of l k.take_back) from asked
-  loses_nothing not_so = subst (λ (l : Layout). NoneLoses (machine_of l k.take_back) (state_in l m pool) (machine_call l.levels call)) alike (runs.loses_nothing not_so)
+  loses_nothing : loses ≡ false → NoneLoses (machine_of l k.take_back) from call
+  loses_nothing not_so = subst (λ (l : Layout). NoneLoses (machine_of l k.take_back) (state_in l m pool) call) alike (runs.loses_nothing not_so)
 
-  free : KeepsFree l m pool (back_by (machine_of l k.take_back) from asked) n rest
-  free = subst (λ (l : Layout). KeepsFree l m pool (back_by (machine_of l k.take_back) (state_in l m pool) (machine_call l.levels call)) n rest) alike runs.free
+  free : KeepsFree l m pool (back_by (machine_of l k.take_back) from call) n rest
+  free = subst (λ (l : Layout). KeepsFree l m pool (back_by (machine_of l k.take_back) (state_in l m pool) call) n rest) alike runs.free
 
   same_due : made_by k l m pool call loses ≡ made_by k one m pool call loses
   same_due = ap (λ (l : Layout). made_by k l m pool call loses) (sym alike)
@@ -115,14 +111,14 @@ module _ (k : Kernel) (places : Places) (mapping : IsMapping places) (levels : 0
     now = between k (words_of m places) pool layouts s
 
     abbrev events : List SwitchEvent
-    events = call_events k (words_of m places) (words_of n places) one asked loses reaches everywhere
+    events = call_events k (words_of m places) (words_of n places) one call loses reaches everywhere
 
     abbrev called : Switching
     called = with_due (made_by k l m pool call loses) reaches everywhere s
 
     module _ (waits : (c : ℕ) → StayFree (s.due (Of c)) pool rest)
-        (apart : (tag : Tag) (q r : List ℕ) (frame : ℕ) → In (s.due tag) (PageDue q frame) → mapped_by k.levels asked ≡ Some r → is_below q r ≡ false) where
-      calls_on : CallsOn k places sharing m pool n rest layouts one s asked loses reaches everywhere
+        (apart : (tag : Tag) (q r : List ℕ) (frame : ℕ) → In (s.due tag) (PageDue q frame) → mapped_by k.levels call ≡ Some r → is_below q r ≡ false) where
+      calls_on : CallsOn k places sharing m pool n rest layouts one s call loses reaches everywhere
       calls_on = record {
         is_sharing = runs.is_sharing;
         all_share = runs.all_share;
@@ -131,22 +127,22 @@ module _ (k : Kernel) (places : Places) (mapping : IsMapping places) (levels : 0
         before = runs.before;
         later = runs.later;
         adds = runs.adds;
-        is_call = subst (λ (l : Layout). IsCall l.levels (machine_call l.levels call)) alike runs.is_call;
+        is_call = subst (λ (l : Layout). IsCall l.levels call) alike runs.is_call;
         steps = stepped;
         keeps = runs.keeps;
         root_entries = runs.root_entries;
-        free = run_calls_are_events l k.take_back k.serves m n pool rest asked stepped free kept.fits;
+        free = run_calls_are_events l k.take_back k.serves m n pool rest call stepped free kept.fits;
         loses_nothing = λ not_so q u. subst (λ (st : State). LosesNothing (entry from.paths q) (entry st.paths q)) stepped (loses_nothing not_so q u);
         waits = waits;
         apart = apart;
         unreached = λ b ib off. let u = runs.unreached b ib off in
-            (u.0, subst (λ (l : Layout). Avoids l.levels (sharing one.root b.root) (machine_call l.levels call)) alike u.1);
-        avoids = λ off. subst (λ (l : Layout). Avoids l.levels k.shared (machine_call l.levels call)) alike (runs.avoids off);
+            (u.0, subst (λ (l : Layout). Avoids l.levels (sharing one.root b.root) call) alike u.1);
+        avoids = λ off. subst (λ (l : Layout). Avoids l.levels k.shared call) alike (runs.avoids off);
       }
 
       call_reached : IsReachedBySwitches k places m pool layouts s → IsReachedBySwitches k places n rest layouts (with_due (made_by k one m pool call loses) reaches everywhere s)
       call_reached reached =
-          let may = calls_may_switch k places mapping levels gives sharing m n pool rest layouts one s asked loses reaches everywhere calls_on in
+          let may = calls_may_switch k places mapping levels gives sharing m n pool rest layouts one s call loses reaches everywhere calls_on in
           subst (λ due. IsReachedBySwitches k places n rest layouts (with_due due reaches everywhere s)) same_due
           (reached_by_events k places m n pool rest layouts layouts s called reached events may.0 may.1)
 
@@ -155,7 +151,7 @@ reached_by_calls k places mapping levels gives sharing m n pool rest layouts one
     let same = is_like k places mapping levels sharing runs.all_share m pool layouts runs.are runs.before one runs.there in
     call_reached k places mapping levels gives sharing m n pool rest layouts one call reply loses reaches everywhere runs s
     waits
-    (λ tag q r frame i is. apart tag q r frame i (ap (λ (l : Layout). mapped_by l.levels (machine_call l.levels call)) same ∙ is)) reached
+    (λ tag q r frame i is. apart tag q r frame i (ap (λ (l : Layout). mapped_by l.levels call) same ∙ is)) reached
 
 -- ---- a flush
 
@@ -284,9 +280,8 @@ pub reached_by_flushed_calls : ReachedByFlushedCalls
 reached_by_flushed_calls k places mapping levels gives sharing m n pool rest layouts one call reply loses reaches everywhere s runs reached settled flush tells after left given_up gone =
     let new = made_by k one m pool call loses in
     let called = with_due new reaches everywhere s in
-    let asked = machine_call one.levels call in
-    let r = (step (machine_of one k.take_back) (state_in one m pool) asked).reply in
-    let freed = freed_by one.levels (state_in one m pool) asked in
+    let r = (step (machine_of one k.take_back) (state_in one m pool) call).reply in
+    let freed = freed_by one.levels (state_in one m pool) call in
     let p = unwrap_or (page_of_call one.levels call) 0 in
     let is_told : flush ≡ flush_for new = tells one.window freed r refl (ap (λ (a : AfterStep Reply). a.reply) runs.steps) in
     let same : one.levels ≡ k.levels = runs.before.same_levels one runs.there in

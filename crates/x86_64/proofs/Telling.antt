@@ -1,7 +1,8 @@
 -- The machine's reply to a call, recovered from the Rust reply.
-use Rattle.std.proofs.Common.{◌≡◌, ℕ, ◌==◌, Bool, true, false, cond, Option, Some, None, option_map, Result, Ok, Err, refl, sym, ap, ◌∙◌, eqb-true}
+use Rattle.std.proofs.Common.{◌≡◌, ℕ, ◌==◌, Bool, true, false, cond, Option, Some, None, option_map, Ok, Err, refl, sym, ap, ◌∙◌, eqb-true}
 use Rattle.std.proofs.lemmas.Option.{same_Some}
 use Rattle.x86_64_model.specs.Call as machine
+use Rattle.x86_64_model.specs.Call.{Call, MapTo, MapToWithTableFlags, IdentityMap, UpdateFlags, SetFlags, TranslatePage, Unmap as UnmapPage}
 use Rattle.x86_64_model.specs.Refusal as refusal
 use Rattle.x86_64_model.specs.Refusal.{Refusal, Done, Refused}
 use Rattle.x86_64_model.specs.Translation.{Translated, NotMapped as Nowhere, Mapped as At}
@@ -14,11 +15,12 @@ use Rattle.x86_64_tables.specs.declared.translation.MappedFrame.{MappedFrame}
 use Rattle.x86_64_tables.specs.declared.translation.MappedFrame.TheVariants.{Size4KiB, Size2MiB, Size1GiB}
 use Rattle.x86_64_tables.specs.declared.translation.TranslateResult.{TranslateResult}
 use Rattle.x86_64_tables.specs.declared.translation.TranslateResult.TheVariants.{Mapped, NotMapped, InvalidFrameAddress}
-use Rattle.x86_64.specs.Asked.{PageCall, MapTo, MapToWithTableFlags, IdentityMap, UpdateFlags, SetFlags, TranslatePage, Unmap as UnmapPage, MapperCall, Of4KiB, Of2MiB, Of1GiB, Translate, TranslateAddr, CleanUp, CleanUpRange}
 use Rattle.x86_64.specs.declared.call_values.PageReply.TheVariants.{Map, Unmap, Update, TableFlags, Frame}
 use Rattle.x86_64.specs.declared.call_values.MapperReply.TheVariants as reply
-use Rattle.x86_64.specs.Replies.{SizeReply, Reply, map_error, unmap_error, update_error, translate_error, size_answer, translate_result, sized, reply_of}
-use Rattle.x86_64.specs.ToldReplies.{size_told, told_part, RepliesTell}
+use Rattle.x86_64.specs.Replies.{SizeReply, Reply, map_error, unmap_error, update_error, translate_error, translate_result, reply_of}
+use Rattle.x86_64.specs.ToldReplies.{told_part, RepliesTell}
+use Rattle.x86_64.specs.private.Served.{size_reply}
+use Rattle.x86_64.proofs.ReplyCases.{IsOnPage, reply_cases}
 
 -- ---- errors
 
@@ -64,57 +66,38 @@ size_back (TableFlags (Err why)) = machine.Answered (Refused (refusal_of_update 
 size_back (Frame (Ok frame)) = machine.Answered (Done frame)
 size_back (Frame (Err why)) = machine.Answered (Refused (refusal_of_translate why))
 
-abbrev back_where : {S : Type 0} → Option (SizeReply S) → machine.Reply
-back_where None = machine.NotAllowed
-back_where (Some answer) = size_back answer
-
-not_allowed_told : (call : PageCall) → size_told call machine.NotAllowed ≡ machine.NotAllowed
-not_allowed_told (MapTo page frame flags) = refl
-not_allowed_told (MapToWithTableFlags page frame flags more) = refl
-not_allowed_told (IdentityMap frame flags) = refl
-not_allowed_told (UnmapPage page) = refl
-not_allowed_told (UpdateFlags page flags) = refl
-not_allowed_told (SetFlags at page flags) = refl
-not_allowed_told (TranslatePage page) = refl
+not_allowed_told : (call : Call) (level : ℕ) → IsOnPage level call → told_part call machine.NotAllowed ≡ machine.NotAllowed
+not_allowed_told (UnmapPage l page) level on = refl
+not_allowed_told call level on = refl
 
 module _ {S : Type 0} where
-  done_back : (r : machine.Reply) (answer : SizeReply S) → r ≡ size_back answer → (o : Option (SizeReply S)) → Some (Some answer) ≡ Some o → r ≡ back_where o
-  done_back r answer is o e = is ∙ ap back_where (same_Some _ _ e)
+  done_back : (told answer : SizeReply S) → Some told ≡ Some answer → size_back told ≡ size_back answer
+  done_back told answer e = ap size_back (same_Some _ _ e)
 
-  refused_back : {X E : Type 0} (wrap : Result X E → SizeReply S) (why : Refusal) (error : Option E) → ((w : E) → error ≡ Some w → size_back (wrap (Err w)) ≡ machine.Answered (Refused why))
-      → (o : Option (SizeReply S)) → option_map Some (option_map wrap (option_map Err error)) ≡ Some o → machine.Answered (Refused why) ≡ back_where o
-  refused_back wrap why None back o e = cc
-  refused_back wrap why (Some w) back o e = sym (back w refl) ∙ ap back_where (same_Some _ _ e)
+  refused_back : {E : Type 0} (wrap : E → SizeReply S) (why : Refusal) (error : Option E) → ((w : E) → error ≡ Some w → size_back (wrap w) ≡ machine.Answered (Refused why))
+      → (answer : SizeReply S) → option_map wrap error ≡ Some answer → machine.Answered (Refused why) ≡ size_back answer
+  refused_back wrap why None back answer e = cc
+  refused_back wrap why (Some w) back answer e = sym (back w refl) ∙ ap size_back (same_Some _ _ e)
 
-  -- a map of a page
-  map_told : (page : ℕ) (why : Refusal) (o : Option (SizeReply S)) → option_map Some (option_map Map (option_map Err (map_error why))) ≡ Some o → machine.Answered (Refused why) ≡ back_where o
-  map_told page why = refused_back Map why (map_error why) (λ w is. ap (λ x. machine.Answered (Refused x)) (map_back why w is))
+  map_told : (why : Refusal) (answer : SizeReply S) → option_map (λ w. Map (Err w)) (map_error why) ≡ Some answer → machine.Answered (Refused why) ≡ size_back answer
+  map_told why = refused_back (λ w. Map (Err w)) why (map_error why) (λ w is. ap (λ x. machine.Answered (Refused x)) (map_back why w is))
 
-  flags_told : (why : Refusal) (o : Option (SizeReply S)) → option_map Some (option_map TableFlags (option_map Err (update_error why))) ≡ Some o → machine.Answered (Refused why) ≡ back_where o
-  flags_told why = refused_back TableFlags why (update_error why) (λ w is. ap (λ x. machine.Answered (Refused x)) (update_back why w is))
-
-  answer_back : (call : PageCall) (a : refusal.Answer) (o : Option (SizeReply S)) → size_answer call (machine.Answered a) ≡ Some o → size_told call (machine.Answered a) ≡ back_where o
-  answer_back (MapTo page frame flags) (Done f) = done_back _ _ refl
-  answer_back (MapTo page frame flags) (Refused why) = map_told page why
-  answer_back (MapToWithTableFlags page frame flags more) (Done f) = done_back _ _ refl
-  answer_back (MapToWithTableFlags page frame flags more) (Refused why) = map_told page why
-  answer_back (IdentityMap frame flags) (Done f) = done_back _ _ refl
-  answer_back (IdentityMap frame flags) (Refused why) = map_told frame why
-  answer_back (UnmapPage page) (Done f) = done_back _ _ refl
-  answer_back (UnmapPage page) (Refused why) = refused_back Unmap why (unmap_error why) (λ w is. ap (λ x. machine.Answered (Refused x)) (unmap_back why w is))
-  answer_back (UpdateFlags page flags) (Done f) = done_back _ _ refl
-  answer_back (UpdateFlags page flags) (Refused why) = refused_back Update why (update_error why) (λ w is. ap (λ x. machine.Answered (Refused x)) (update_back why w is))
-  answer_back (SetFlags at page flags) (Done f) = done_back _ _ refl
-  answer_back (SetFlags at page flags) (Refused why) = flags_told why
-  answer_back (TranslatePage page) (Done f) = done_back _ _ refl
-  answer_back (TranslatePage page) (Refused why) = refused_back Frame why (translate_error why) (λ w is. ap (λ x. machine.Answered (Refused x)) (translate_back why w is))
-
-  size_is_back : (call : PageCall) (r : machine.Reply) (o : Option (SizeReply S)) → size_answer call r ≡ Some o → size_told call r ≡ back_where o
-  size_is_back call (machine.Answered a) o is = answer_back call a o is
-  size_is_back call machine.NotAllowed o is = not_allowed_told call ∙ ap back_where (same_Some _ _ is)
-  size_is_back call (machine.Position t) o is = cc
-  size_is_back call (machine.Address a) o is = cc
-  size_is_back call machine.Cleaned o is = cc
+  answer_back : (call : Call) (level : ℕ) → IsOnPage level call → (a : refusal.Answer) (answer : SizeReply S) → size_reply call a ≡ Some answer → told_part call (machine.Answered a) ≡ size_back answer
+  answer_back (MapTo l page frame flags) level on (Done f) = done_back _
+  answer_back (MapTo l page frame flags) level on (Refused why) = map_told why
+  answer_back (MapToWithTableFlags l page frame flags more) level on (Done f) = done_back _
+  answer_back (MapToWithTableFlags l page frame flags more) level on (Refused why) = map_told why
+  answer_back (IdentityMap l frame flags) level on (Done f) = done_back _
+  answer_back (IdentityMap l frame flags) level on (Refused why) = map_told why
+  answer_back (UnmapPage l page) level on (Done f) = done_back _
+  answer_back (UnmapPage l page) level on (Refused why) = refused_back (λ w. Unmap (Err w)) why (unmap_error why) (λ w is. ap (λ x. machine.Answered (Refused x)) (unmap_back why w is))
+  answer_back (UpdateFlags l page flags) level on (Done f) = done_back _
+  answer_back (UpdateFlags l page flags) level on (Refused why) = refused_back (λ w. Update (Err w)) why (update_error why) (λ w is. ap (λ x. machine.Answered (Refused x)) (update_back why w is))
+  answer_back (SetFlags at l page flags) level on (Done f) = done_back _
+  answer_back (SetFlags at l page flags) level on (Refused why) = refused_back (λ w. TableFlags (Err w)) why (update_error why) (λ w is. ap (λ x. machine.Answered (Refused x)) (update_back why w is))
+  answer_back (TranslatePage l page) level on (Done f) = done_back _
+  answer_back (TranslatePage l page) level on (Refused why) = refused_back (λ w. Frame (Err w)) why (translate_error why) (λ w is. ap (λ x. machine.Answered (Refused x)) (translate_back why w is))
+  answer_back call level on a answer e = absurd on
 
 -- ---- all replies
 
@@ -137,12 +120,6 @@ back (reply.Address address) = machine.Address address
 back reply.Cleaned = machine.Cleaned
 back reply.NotAllowed = machine.NotAllowed
 
-sized_back : {S : Type 0} (wrap : SizeReply S → Reply) → ((answer : SizeReply S) → back (wrap answer) ≡ size_back answer) → (r : machine.Reply) (found : Option (Option (SizeReply S)))
-    → ((o : Option (SizeReply S)) → found ≡ Some o → r ≡ back_where o) → (x : Reply) → option_map (sized wrap) found ≡ Some x → r ≡ back x
-sized_back wrap is r None tells x e = cc
-sized_back wrap is r (Some None) tells x e = tells None refl ∙ ap back (same_Some _ _ e)
-sized_back wrap is r (Some (Some answer)) tells x e = tells (Some answer) refl ∙ sym (is answer) ∙ ap back (same_Some _ _ e)
-
 mapped_back : (size start offset flags : ℕ) (small large huge : Bool) → (size == 0x1000) ≡ small → (size == 0x20_0000) ≡ large → (size == 0x4000_0000) ≡ huge → (x : TranslateResult)
     → option_map (λ frame. Mapped frame offset (record { 0 = flags })) (cond small (Some (Size4KiB start)) (cond large (Some (Size2MiB start)) (cond huge (Some (Size1GiB start)) None))) ≡ Some x
     → At size start offset flags ≡ result_back x
@@ -155,37 +132,9 @@ translation_back : (t : Translated) (x : TranslateResult) → translate_result t
 translation_back Nowhere x e = ap result_back (same_Some _ _ e)
 translation_back (At size start offset flags) x e = mapped_back size start offset flags _ _ _ refl refl refl x e
 
-translated_back : (t : Translated) (found : Option TranslateResult) → ((x : TranslateResult) → found ≡ Some x → t ≡ result_back x) → (x : Reply) → option_map reply.Translate found ≡ Some x → machine.Position t ≡ back x
-translated_back t None tells x e = cc
-translated_back t (Some result) tells x e = ap machine.Position (tells result refl) ∙ ap back (same_Some _ _ e)
-
-is_back : (call : MapperCall) (r : machine.Reply) (x : Reply) → reply_of call r ≡ Some x → told_part call r ≡ back x
-is_back (Of4KiB call) r x e = sized_back reply.Of4KiB (λ a. refl) (size_told call r) (size_answer call r) (size_is_back call r) x e
-is_back (Of2MiB call) r x e = sized_back reply.Of2MiB (λ a. refl) (size_told call r) (size_answer call r) (size_is_back call r) x e
-is_back (Of1GiB call) r x e = sized_back reply.Of1GiB (λ a. refl) (size_told call r) (size_answer call r) (size_is_back call r) x e
-is_back (Translate position) (machine.Position t) x e = translated_back t (translate_result t) (translation_back t) x e
-is_back (Translate position) machine.NotAllowed x e = cc
-is_back (Translate position) (machine.Answered a) x e = cc
-is_back (Translate position) (machine.Address a) x e = cc
-is_back (Translate position) machine.Cleaned x e = cc
-is_back (TranslateAddr position) (machine.Address a) x e = ap back (same_Some _ _ e)
-is_back (TranslateAddr position) machine.NotAllowed x e = cc
-is_back (TranslateAddr position) (machine.Answered a) x e = cc
-is_back (TranslateAddr position) (machine.Position t) x e = cc
-is_back (TranslateAddr position) machine.Cleaned x e = cc
-is_back CleanUp machine.Cleaned x e = ap back (same_Some _ _ e)
-is_back CleanUp machine.NotAllowed x e = cc
-is_back CleanUp (machine.Answered a) x e = cc
-is_back CleanUp (machine.Position t) x e = cc
-is_back CleanUp (machine.Address a) x e = cc
-is_back (CleanUpRange low high) machine.Cleaned x e = ap back (same_Some _ _ e)
-is_back (CleanUpRange low high) machine.NotAllowed x e = cc
-is_back (CleanUpRange low high) (machine.Answered a) x e = cc
-is_back (CleanUpRange low high) (machine.Position t) x e = cc
-is_back (CleanUpRange low high) (machine.Address a) x e = cc
-
-tells_by : (call : MapperCall) (r s : machine.Reply) (x : Reply) → reply_of call r ≡ Some x → reply_of call s ≡ Some x → told_part call r ≡ told_part call s
-tells_by call r s x first second = is_back call r x first ∙ sym (is_back call s x second)
+is_back : (call : Call) (r : machine.Reply) (x : Reply) → reply_of call r ≡ Some x → told_part call r ≡ back x
+is_back = reply_cases (λ call r x. told_part call r ≡ back x) not_allowed_told (λ call. answer_back call 1) (λ call. answer_back call 2) (λ call. answer_back call 3)
+    (λ p t told e. ap machine.Position (translation_back t told e)) (λ p a. refl) (λ low high. refl)
 
 pub replies_tell : RepliesTell
-replies_tell = tells_by
+replies_tell call r s x first second = is_back call r x first ∙ sym (is_back call s x second)

@@ -17,13 +17,13 @@ pub record IsRange {Lent : Type 0} (h : Hierarchy Lent) (level page count : ℕ)
   pub there : (k : ℕ) → k < count → page + k * span level < position_count h.layout.levels
   pub outside : (k : ℕ) → k < count → begins_with h.layout.window (path_of h level (page + k * span level)) ≡ false
 
--- The calls that unmap the first `count` pages of a level, from a page on, in order, with L levels of tables.
-abbrev pub unmaps : (L level page count : ℕ) → List Call
-unmaps L level page count = map (λ k. Unmap (path_at L level (page + k * span level))) (range_with_len 0 count)
+-- The calls that unmap the first `count` pages of a level, from a page on, in order.
+abbrev pub unmaps : (level page count : ℕ) → List Call
+unmaps level page count = map (λ k. Unmap level (page + k * span level)) (range_with_len 0 count)
 
--- The calls that set the flags of the first `count` pages of a level, from a page on, in order, with L levels of tables.
-abbrev pub updates : (L level page flags count : ℕ) → List Call
-updates L level page given count = map (λ k. UpdateFlags (path_at L level (page + k * span level)) given) (range_with_len 0 count)
+-- The calls that set the flags of the first `count` pages of a level, from a page on, in order.
+abbrev pub updates : (level page flags count : ℕ) → List Call
+updates level page given count = map (λ k. UpdateFlags level (page + k * span level) given) (range_with_len 0 count)
 
 -- The frames that the replies of done calls name, in order. Other replies are passed over.
 abbrev pub frames_done : List Reply → List ℕ
@@ -49,8 +49,8 @@ pub record DoesChanges {Lent : Type 0} (h : Hierarchy Lent) (calls : List Call) 
 
 -- The first pages of a level, from a page on, were unmapped one after another, with these replies.
 abbrev pub UnmapsEach : {Lent : Type 0} → Hierarchy Lent → (level page count : ℕ) → (replies : List Reply) → (after : Hierarchy Lent) → Type 0
-UnmapsEach h level page count replies after = DoesChanges h (unmaps h.layout.levels level page count) replies after
+UnmapsEach h level page count replies after = DoesChanges h (unmaps level page count) replies after
 
 -- The flags of the first pages of a level, from a page on, were set one after another, with these replies.
 abbrev pub UpdatesEach : {Lent : Type 0} → Hierarchy Lent → (level page flags count : ℕ) → (replies : List Reply) → (after : Hierarchy Lent) → Type 0
-UpdatesEach h level page given count replies after = DoesChanges h (updates h.layout.levels level page given count) replies after
+UpdatesEach h level page given count replies after = DoesChanges h (updates level page given count) replies after

@@ -12,7 +12,7 @@ mod selection;
 mod summaries;
 mod walk_entries;
 
-pub use listing::{Mappings, Mappings57, MappingsIn, mappings, mappings_57, mappings_from, span};
+pub use listing::{Mappings, Mappings57, MappingsIn, mappings, mappings_57, mappings_from};
 pub use mapping::{Mapping, Mapping57, MappingIn};
 pub use region::{Region, Region57, RegionIn};
 pub use region_list::{Regions, Regions57, RegionsIn, regions, regions_57};

@@ -7,7 +7,6 @@ ghost use Rattle.x86_64_model.specs.Memory.{words_of};
 mod cursor;
 
 use crate::mapping::MappingIn;
-pub use cursor::span;
 use cursor::{Cursor, find_page};
 use std::marker::{Model, PhantomData};
 use x86_64_addr::addr::VirtAddrIn;

@@ -1,5 +1,6 @@
 pub mod Places
 pub mod PageTableEntries
+pub mod StepsRead
 pub mod WalkSteps
 pub mod PlacesInOrder
 pub mod SegmentsInOrder

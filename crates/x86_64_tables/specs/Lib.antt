@@ -27,6 +27,7 @@ pub use Rattle.x86_64_model.specs.Alike
 pub use Rattle.x86_64_model.specs.Pool
 pub use Rattle.x86_64_model.specs.PageWalk
 pub use Rattle.x86_64_model.specs.Mappings
+pub use Rattle.x86_64_model.specs.Steps
 pub use Rattle.x86_64_model.specs.Layout
 pub use Rattle.x86_64_model.specs.Translation
 pub use Rattle.x86_64_model.specs.Lists

@@ -21,6 +21,7 @@ mod lent_memory;
 mod places;
 mod segment_mapping;
 mod shift_mapping;
+mod steps;
 mod table_memory;
 mod validity;
 mod walk;
@@ -38,13 +39,14 @@ pub use shift_mapping::ShiftMapping;
 use std::alloc::{AllocError, Global};
 use std::marker::Model;
 use std::ops::{Index, IndexMut};
+pub use steps::{Step, Steps};
 pub use table_memory::TableMemory;
 pub use validity::{
     FRAME_COUNT, HierarchyTest, clear_marks, is_valid_hierarchy, is_valid_hierarchy_57,
     is_valid_recursive, is_valid_recursive_57, pool_fits, pool_fits_57, pool_fits_recursive,
     pool_fits_recursive_57,
 };
-pub use walk::{Walked, has_flag, index_of, page_walk, page_walk as page_walk_57, table_in};
+pub use walk::{Walked, has_flag, index_of, page_walk, page_walk as page_walk_57, span, table_in};
 use x86_64_page::frame::PhysFrame;
 use x86_64_page::page::{PageSize, Size4KiB};
 

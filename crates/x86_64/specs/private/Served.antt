@@ -38,14 +38,14 @@ changes_nothing_where (Some answer) = size_changes_nothing answer
 
 -- The reply to a call on a page of the size S for the machine's answer, or `None` if the machine never answers this call so.
 abbrev pub size_reply : {S : Type 0} → Call → Answer → Option (SizeReply S)
-size_reply (MapTo level page frame flags) answer = result_reply page_reply.Map (λ mapped. page) map_error answer
-size_reply (MapToWithTableFlags level page frame flags parent_flags) answer = result_reply page_reply.Map (λ mapped. page) map_error answer
-size_reply (IdentityMap level frame flags) answer = result_reply page_reply.Map (λ mapped. frame) map_error answer
-size_reply (Unmap level page) answer = result_reply page_reply.Unmap (λ frame. (frame, page)) unmap_error answer
-size_reply (UpdateFlags level page flags) answer = result_reply page_reply.Update (λ frame. page) update_error answer
-size_reply (SetFlags at level page flags) answer = result_reply page_reply.TableFlags (λ frame. tt) update_error answer
-size_reply (TranslatePage level page) answer = result_reply page_reply.Frame (λ frame. frame) translate_error answer
-size_reply call answer = None
+size_reply (MapTo level page frame flags) = result_reply page_reply.Map (λ mapped. page) map_error
+size_reply (MapToWithTableFlags level page frame flags parent_flags) = result_reply page_reply.Map (λ mapped. page) map_error
+size_reply (IdentityMap level frame flags) = result_reply page_reply.Map (λ mapped. frame) map_error
+size_reply (Unmap level page) = result_reply page_reply.Unmap (λ frame. (frame, page)) unmap_error
+size_reply (UpdateFlags level page flags) = result_reply page_reply.Update (λ frame. page) update_error
+size_reply (SetFlags at level page flags) = result_reply page_reply.TableFlags (λ frame. tt) update_error
+size_reply (TranslatePage level page) = result_reply page_reply.Frame (λ frame. frame) translate_error
+size_reply call = λ answer. None
 
 -- The reply to a call on a page of the size S for the machine's reply, or `None` if the machine never replies to such a call so.
 -- `Some None` stands for a call that isn't allowed.

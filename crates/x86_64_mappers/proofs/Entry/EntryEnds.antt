@@ -2,10 +2,12 @@
 use Rattle.std.proofs.Common.{◌≡◌, ℕ, true, List, Option, Some, None, sym, ap, ap₂, ◌∙◌, subst}
 use Rattle.x86_64_model.proofs.Lemmas.Machines.Owners.{does_unmap, does_update, does_set_flags}
 use Rattle.x86_64_model.specs.Allowed.{refuses}
-use Rattle.x86_64_model.specs.Call.{Unmap, UpdateFlags, SetFlags}
-use Rattle.x86_64_model.specs.private.MapperCalls.{after_unmap, after_update, after_set_flags}
-use Rattle.x86_64_model.specs.Hierarchy.{Hierarchy, Does, named}
+use Rattle.x86_64_model.specs.Entry.{address}
+use Rattle.x86_64_model.specs.Path.{front_at}
+use Rattle.x86_64_model.specs.private.MapperCalls.{ChangesBy, after_unmap, after_update, after_set_flags}
+use Rattle.x86_64_model.specs.Hierarchy.{Hierarchy, read_entry}
 use Rattle.x86_64_model.specs.Refusal.{Refusal, Answer, Done, Refused, refusal_of, answer_unless}
+use Rattle.x86_64_mappers.specs.private.PathCalls.{UnmapsPath}
 use Rattle.x86_64_mappers.proofs.Entry.EntryRules.{Ends, IfRefused}
 
 -- a hierarchy with the same layout and loan differs only in the memory
@@ -23,21 +25,21 @@ told_still (Done f) (Some v) frame told still is = cc
 told_still (Refused w) why frame told still is = still
 
 module _ {Lent : Type 0} (h after : Hierarchy Lent) (layout : after.layout ≡ h.layout) (lent : after.lent ≡ h.lent) (q : List ℕ) where
-  pub ends_unmap : (answer : Answer) → Ends h.layout h.memory (after_unmap h.layout h.memory q) answer after.memory → Does h (Unmap q) answer after
-  ends_unmap answer ends = subst (Does h (Unmap q) answer) (with_memory h after layout lent)
+  pub ends_unmap : (answer : Answer) → Ends h.layout h.memory (after_unmap h.layout h.memory q) answer after.memory → UnmapsPath h q answer after
+  ends_unmap answer ends = subst (UnmapsPath h q answer) (with_memory h after layout lent)
       (does_unmap h q answer after.memory (sym ends.answers) ends.changed (refused_still answer ends.unchanged))
 
   pub ends_update : (given : ℕ) (why : Option Refusal) (answer : Answer) → why ≡ refusal_of answer → Ends h.layout h.memory (after_update h.layout h.memory q given) answer after.memory
-      → Does h (UpdateFlags q given) (answer_unless why (Done (named h (UpdateFlags q given)))) after
+      → ChangesBy h (after_update h.layout h.memory q given) (answer_unless why (Done (address (read_entry h q)))) after
   ends_update given why answer told ends =
-      let frame = named h (UpdateFlags q given) in
-      subst (Does h (UpdateFlags q given) (answer_unless why (Done frame))) (with_memory h after layout lent)
+      let frame = address (read_entry h q) in
+      subst (ChangesBy h (after_update h.layout h.memory q given) (answer_unless why (Done frame))) (with_memory h after layout lent)
       (does_update h q given why after.memory (told ∙ ap refusal_of (sym ends.answers)) ends.changed (told_still answer why frame told ends.unchanged))
 
   pub ends_set_flags : (level given : ℕ) (why : Option Refusal) (answer : Answer) → why ≡ refusal_of answer
       → Ends h.layout h.memory (after_set_flags h.layout h.memory level q given) answer after.memory
-      → Does h (SetFlags level q given) (answer_unless why (Done (named h (SetFlags level q given)))) after
+      → ChangesBy h (after_set_flags h.layout h.memory level q given) (answer_unless why (Done (address (read_entry h (front_at h.layout.levels level q))))) after
   ends_set_flags level given why answer told ends =
-      let frame = named h (SetFlags level q given) in
-      subst (Does h (SetFlags level q given) (answer_unless why (Done frame))) (with_memory h after layout lent)
+      let frame = address (read_entry h (front_at h.layout.levels level q)) in
+      subst (ChangesBy h (after_set_flags h.layout h.memory level q given) (answer_unless why (Done frame))) (with_memory h after layout lent)
       (does_set_flags h level q given why after.memory (told ∙ ap refusal_of (sym ends.answers)) ends.changed (told_still answer why frame told ends.unchanged))

@@ -1,8 +1,7 @@
 -- The calls on the entry of a page, whose rules depend on what the entry decides for a page of its level.
 use Rattle.std.proofs.Common.{◌≡◌, ◌<◌, ◌≤◌, ◌+◌, ◌-◌, ◌%◌, ℕ, Bool, true, false, ◌==◌, ◌&&◌, ◌||◌, not, cond, List, [], ◌∷◌, ◌++◌, length, take, get_or, Option, None, Result, Ok, Err, bit_or, refl, sym, ap, ap₂, ◌∙◌, subst, arith, eq-eqb, eqb-true}
 use Rattle.std.proofs.lemmas.Bool.{and_parts, not-true}
-use Rattle.x86_64_model.specs.Allowed.{allowed}
-use Rattle.x86_64_model.specs.Call.{Unmap, UpdateFlags}
+use Rattle.x86_64_model.specs.Allowed.{update_allowed}
 use Rattle.x86_64_model.specs.Entry.{present, used, huge, address}
 use Rattle.x86_64_model.specs.Layout.{Layout}
 use Rattle.x86_64_model.specs.Hierarchy.{◌laid_in◌, page_translation, paths, read_entry, words}
@@ -32,11 +31,11 @@ answer_of (Ok frame) = Done frame
 answer_of (Err why) = Refused why
 
 -- a page that may be unmapped is outside the window, and so is one whose flags may be updated
-pub unmap_outside : (L : ℕ) (window : Option Window) (M : PathMap) (q : List ℕ) → allowed L window M (Unmap q) ≡ true → begins_with window q ≡ false
-unmap_outside L window M q may = not-true _ may
+pub unmap_outside : (window : Option Window) (q : List ℕ) → not (begins_with window q) ≡ true → begins_with window q ≡ false
+unmap_outside window q may = not-true _ may
 
-pub update_outside : (L : ℕ) (window : Option Window) (M : PathMap) (q : List ℕ) (given : ℕ) → allowed L window M (UpdateFlags q given) ≡ true → begins_with window q ≡ false
-update_outside L window M q given may = not-true _ (and_parts _ _ may).1
+pub update_outside : (window : Option Window) (q : List ℕ) (given : ℕ) → update_allowed window q given ≡ true → begins_with window q ≡ false
+update_outside window q given may = not-true _ (and_parts _ _ may).1
 
 module _ (l : Layout) (m : Memory) (level : ℕ) (q : List ℕ) (at_level : length q + level ≡ l.levels + 1) where
   abbrev M : PathMap

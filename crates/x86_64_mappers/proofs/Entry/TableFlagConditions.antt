@@ -1,8 +1,7 @@
 -- The condition of a change of the flags of an entry above a page's own, by the level and the entry, if no parent stops the call.
 use Rattle.std.proofs.Common.{◌≡◌, ◌≤◌, ◌<◌, ◌+◌, ◌-◌, ℕ, nat_le, nat_lt, ◌&&◌, ◌||◌, Bool, true, false, not, cond, List, [], ◌∷◌, ◌++◌, length, take, get_or, Option, Some, None, is_some, Ok, Err, bit_or, refl, sym, ap, ◌∙◌, arith, length-take-le}
 use Rattle.std.proofs.lemmas.Bool.{le-ltb}
-use Rattle.x86_64_model.specs.Allowed.{allowed, refuses, both_or_none}
-use Rattle.x86_64_model.specs.Call.{SetFlags}
+use Rattle.x86_64_model.specs.Allowed.{refuses, both_or_none, table_flags_allowed}
 use Rattle.x86_64_model.specs.Entry.{used, huge, address, no_address}
 use Rattle.x86_64_model.specs.Layout.{Layout}
 use Rattle.x86_64_model.specs.Hierarchy.{◌laid_in◌, read_entry, words}
@@ -68,9 +67,9 @@ module _ (L : ℕ) (window : Option Window) (M : PathMap) (level : ℕ) (page : 
       ∙ ap (λ k. nat_le level k || keeps_huge E q given) own_level
 
   -- the flags of the entry of a level on the path of a page whose own entry is of another level
-  pub table_flags_rule : allowed L window M (SetFlags level page given)
+  pub table_flags_rule : table_flags_allowed L window M level page given
       ≡ (no_address given && not (begins_with window page) && cond (nat_lt 3 level) (not (huge given)) (nat_le level own || keeps_huge E q given))
   table_flags_rule = ap (λ b. no_address given && not (begins_with window page) && cond (nat_lt 3 level) (not (huge given)) b) refused_or_kept
 
-  pub low_flags_rule : level ≤ 3 → allowed L window M (SetFlags level page given) ≡ (no_address given && not (begins_with window page) && (nat_le level own || keeps_huge E q given))
+  pub low_flags_rule : level ≤ 3 → table_flags_allowed L window M level page given ≡ (no_address given && not (begins_with window page) && (nat_le level own || keeps_huge E q given))
   low_flags_rule high = table_flags_rule ∙ ap (λ b. no_address given && not (begins_with window page) && cond b (not (huge given)) (nat_le level own || keeps_huge E q given)) (le-ltb 3 level high)

@@ -1,8 +1,7 @@
 -- The call that sets the flags of an entry above a page's own: its answer, and the memory afterwards.
 use Rattle.std.proofs.Common.{◌≡◌, ◌≢◌, ◌≤◌, ◌<◌, ◌+◌, ◌-◌, ℕ, nat_le, nat_lt, ◌||◌, Bool, true, false, not, cond, List, [], ◌∷◌, length, take, get_or, is_some, Some, None, Result, Ok, Err, bit_or, refl, sym, ap, ◌∙◌, subst, arith, eqb-true, ltb-true}
 use Rattle.std.proofs.lemmas.Bool.{and_parts, not-true, le-leb, lt-leb}
-use Rattle.x86_64_model.specs.Allowed.{allowed, both_or_none}
-use Rattle.x86_64_model.specs.Call.{SetFlags}
+use Rattle.x86_64_model.specs.Allowed.{both_or_none, table_flags_allowed}
 use Rattle.x86_64_model.specs.Entry.{used, huge, address, names_table, no_address}
 use Rattle.x86_64_model.specs.Layout.{Layout}
 use Rattle.x86_64_model.specs.Hierarchy.{◌laid_in◌, Valid, paths, read_entry, words}
@@ -74,7 +73,7 @@ module _ (l : Layout) (m : Memory) (valid : Valid (l laid_in m)) (level : ℕ) (
       table_nonzero [] a b is z = absurd (omega arith)
       table_nonzero (i ∷ p) a b is z = valid.valid.not_zero i p (named l.levels (i ∷ p) (entry M (i ∷ p)) is b ∙ ap Some z)
 
-      module _ (may : allowed l.levels l.window M (SetFlags level page given) ≡ true) where
+      module _ (may : table_flags_allowed l.levels l.window M level page given ≡ true) where
         met : ((no_address given ≡ true) × (not (begins_with l.window page) ≡ true)) × (cond (nat_lt 3 level) (not (huge given)) (nat_le level own || keeps_huge E q given) ≡ true)
         met = let p = and_parts _ _ (sym (table_flags_rule l.levels l.window M level page given own at_level) ∙ may) in (and_parts _ _ p.0, p.1)
 

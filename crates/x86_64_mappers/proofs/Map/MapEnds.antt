@@ -2,10 +2,8 @@
 use Rattle.std.proofs.Common.{◌≡◌, ℕ, zero, suc, true, false, List, [], ◌∷◌, take, Option, Some, None, refl, subst}
 use Rattle.x86_64_model.specs.Window.{Window, begins_with}
 use Rattle.x86_64_model.proofs.Lemmas.Machines.Owners.{does_map}
-use Rattle.x86_64_model.specs.Allowed.{map_allowed}
-use Rattle.x86_64_model.specs.Call.{MapToWithTableFlags}
-use Rattle.x86_64_model.specs.private.MapperCalls.{MapsPage}
-use Rattle.x86_64_model.specs.Hierarchy.{Hierarchy, MayMap, DoesMap, paths}
+use Rattle.x86_64_model.specs.private.MapperCalls.{MapsPage, MapsPath}
+use Rattle.x86_64_model.specs.Hierarchy.{Hierarchy}
 use Rattle.x86_64_model.specs.Refusal.{Answer}
 use Rattle.x86_64_mappers.proofs.Entry.EntryEnds.{with_memory}
 
@@ -17,10 +15,7 @@ outside_front (Some w) (suc k) [] outside = refl
 outside_front (Some w) (suc k) (i ∷ q) outside = outside
 
 module _ {Lent : Type 0} (h : Hierarchy Lent) (supply : List ℕ) (q : List ℕ) (frame given more : ℕ) where
-  pub map_is_allowed : MayMap h supply (MapToWithTableFlags q frame given more) → map_allowed h.layout.levels h.layout.window (paths h) q given more ≡ true
-  map_is_allowed may = may.allowed
-
   pub ends_map : (after : Hierarchy Lent) → after.layout ≡ h.layout → after.lent ≡ h.lent → (answer : Answer) (rest : List ℕ)
-      → MapsPage h.layout h.memory supply q frame given more answer after.memory rest → DoesMap h supply (MapToWithTableFlags q frame given more) answer after rest
-  ends_map after layout lent answer rest mapped = subst (λ h'. DoesMap h supply (MapToWithTableFlags q frame given more) answer h' rest) (with_memory h after layout lent)
+      → MapsPage h.layout h.memory supply q frame given more answer after.memory rest → MapsPath h supply q frame given more answer after rest
+  ends_map after layout lent answer rest mapped = subst (λ h'. MapsPath h supply q frame given more answer h' rest) (with_memory h after layout lent)
       (does_map h supply q frame given more answer after.memory rest mapped)

@@ -8,9 +8,8 @@ use Rattle.x86_64_mappers.proofs.Way.Paths.{has_last_index, page_below_root, som
 use Rattle.x86_64_mappers.specs.private.MapSteps.{IsDown, KeepsOwned, mapped_from}
 use Rattle.x86_64_mappers.specs.TablesAbove.{CreatesTables, tables_after}
 use Rattle.x86_64_mappers.specs.Supplies.{Supply}
-use Rattle.x86_64_model.specs.Call.{MapToWithTableFlags}
 use Rattle.x86_64_model.specs.Entry.{IsParentFlags, used, huge}
-use Rattle.x86_64_model.specs.Hierarchy.{◌laid_in◌, Hierarchy, MayMap, Owns, PoolFits, SupplyFits, paths, words}
+use Rattle.x86_64_model.specs.Hierarchy.{◌laid_in◌, allows_map, Hierarchy, MayMapIf, Owns, PoolFits, SupplyFits, paths, words}
 use Rattle.x86_64_model.specs.Layout.{Layout}
 use Rattle.x86_64_model.specs.Lists.{In}
 use Rattle.x86_64_model.specs.MapRule.{AfterMap, map_rule}
@@ -225,7 +224,7 @@ module _ {Lent : Type 0} (h : Hierarchy Lent) (s : Supply) (ready : SupplyFits (
 -- ---- above a page
 
 module _ {Lent : Type 0} (h : Hierarchy Lent) (s : Supply) (some : 3 < h.layout.levels) (adds : IsParentFlags h.layout.added_flags) (level : ℕ) (low : 1 ≤ level) (high : level ≤ 3) (q : List ℕ) (levels : length q + level ≡ h.layout.levels + 1) (more : ℕ)
-    (may : MayMap h s.frames (MapToWithTableFlags q 0 0 more)) (r : Result ℕ Refusal) (after : Hierarchy Lent) (layout : after.layout ≡ h.layout) (lent : after.lent ≡ h.lent) (rest : Supply) (serves : rest.serves ≡ s.serves)
+    (may : MayMapIf h s.frames (allows_map h q 0 more)) (r : Result ℕ Refusal) (after : Hierarchy Lent) (layout : after.layout ≡ h.layout) (lent : after.lent ≡ h.lent) (rest : Supply) (serves : rest.serves ≡ s.serves)
     (down : IsDown h.layout h.memory s.frames more (take (length q - 1) q) r after.memory rest.frames) where
   pub page_tables_made : CreatesTables h s more q (refusal_of (answer_down r)) after rest
   page_tables_made =

@@ -36,12 +36,12 @@ use Rattle.x86_64_mappers.proofs.Range.RunPaths.{path_after}
 use Rattle.x86_64_mappers.proofs.Way.Pages.{path_parted}
 
 -- a call on the entry of a page of a level, by what the entry says
-pub record IsEntryCall (l : Layout) (level : ℕ) (says : ℕ → Result (ℕ × ℕ) Refusal) (call : List ℕ → Call) (after : Memory → List ℕ → AfterChange) : Type 0 where
+pub record IsEntryCall (l : Layout) (level : ℕ) (says : ℕ → Result (ℕ × ℕ) Refusal) (call : ℕ → Call) (after : Memory → List ℕ → AfterChange) : Type 0 where
   pub rule : (m : Memory) (q : List ℕ) → length q + level ≡ l.levels + 1 → after m q ≡ refused_or (paths (l laid_in m)) (first_stop (read_entry (l laid_in m)) q) (after_entry (paths (l laid_in m)) q (says (read_entry (l laid_in m) q)))
-  pub does : (m : Memory) (q : List ℕ) → HasRule l m (call q) (after m q)
+  pub does : (m : Memory) (page : ℕ) → HasRule l m (call page) (after m (path_at l.levels level page))
   pub change : (m : Memory) (q : List ℕ) → length q + level ≡ l.levels + 1 → begins_with l.window q ≡ false → 0 < length q → (w frame : ℕ) → says (read_entry (l laid_in m) q) ≡ Ok (w, frame) → IsChange l.levels l.window (paths (l laid_in m)) q w
-  pub outside : (m : Memory) (q : List ℕ) → allowed l.levels l.window (paths (l laid_in m)) (call q) ≡ true → begins_with l.window q ≡ false
-  pub still : (m n : Memory) (q : List ℕ) → allowed l.levels l.window (paths (l laid_in m)) (call q) ≡ true → allowed l.levels l.window (paths (l laid_in n)) (call q) ≡ true
+  pub outside : (m : Memory) (page : ℕ) → allowed l.levels l.window (paths (l laid_in m)) (call page) ≡ true → begins_with l.window (path_at l.levels level page) ≡ false
+  pub still : (m n : Memory) (page : ℕ) → allowed l.levels l.window (paths (l laid_in m)) (call page) ≡ true → allowed l.levels l.window (paths (l laid_in n)) (call page) ≡ true
 
 -- what a change of an entry leaves of the way down to it
 pub record StaysFound (l : Layout) (m : Memory) (parents : List ℕ) (g : ℕ) (n : Memory) : Type 0 where
@@ -75,12 +75,12 @@ module _ (l : Layout) (apart : Distinct l.places) (some : 0 < l.levels) (m : Mem
 -- ---- a run
 
 -- the calls on the first pages of a run
-abbrev pub calls_of : (L level page : ℕ) (call : List ℕ → Call) (count : ℕ) → List Call
-calls_of L level page call count = map (λ k. call (path_at L level (page + k * span level))) (range_with_len 0 count)
+abbrev pub calls_of : (level page : ℕ) (call : ℕ → Call) (count : ℕ) → List Call
+calls_of level page call count = map (λ k. call (page + k * span level)) (range_with_len 0 count)
 
-module _ (l : Layout) (apart : Distinct l.places) (level : ℕ) (low : 1 ≤ level) (high : level ≤ 3) (levels : 3 < l.levels) (says : ℕ → Result (ℕ × ℕ) Refusal) (call : List ℕ → Call) (after : Memory → List ℕ → AfterChange)
-    (rules : IsEntryCall l level says call after) (m : Memory) (page total : ℕ) (may : (k : ℕ) → k < total → allowed l.levels l.window (paths (l laid_in m)) (call (path_at l.levels level (page + k * span level))) ≡ true)
-    (done : ℕ) (now : Memory) (answers : List Reply) (run : IsChangeRun l m (calls_of l.levels level page call done) answers now) where
+module _ (l : Layout) (apart : Distinct l.places) (level : ℕ) (low : 1 ≤ level) (high : level ≤ 3) (levels : 3 < l.levels) (says : ℕ → Result (ℕ × ℕ) Refusal) (call : ℕ → Call) (after : Memory → List ℕ → AfterChange)
+    (rules : IsEntryCall l level says call after) (m : Memory) (page total : ℕ) (may : (k : ℕ) → k < total → allowed l.levels l.window (paths (l laid_in m)) (call (page + k * span level)) ≡ true)
+    (done : ℕ) (now : Memory) (answers : List Reply) (run : IsChangeRun l m (calls_of level page call done) answers now) where
   abbrev L : ℕ
   L = l.levels
 
@@ -93,8 +93,11 @@ module _ (l : Layout) (apart : Distinct l.places) (level : ℕ) (low : 1 ≤ lev
   abbrev i : ℕ
   i = get_or q (length q - 1) 0
 
+  abbrev place : ℕ → ℕ
+  place k = page + k * span level
+
   abbrev path : ℕ → List ℕ
-  path k = path_at l.levels level (page + k * span level)
+  path k = path_at l.levels level (place k)
 
   some : 0 < L
   some = omega (arith, levels)
@@ -109,19 +112,19 @@ module _ (l : Layout) (apart : Distinct l.places) (level : ℕ) (low : 1 ≤ lev
   long : (k : ℕ) → length (path (done + k)) + level ≡ L + 1
   long k = let size = length_taken (page + (done + k) * span level) (L + 1 - level) L (omega (arith, low)) in omega (arith, size, high, levels)
 
-  calls_more : (k : ℕ) → calls_of L level page call (k + 1) ≡ calls_of L level page call k ++ call (path k) ∷ []
-  calls_more k = map-range_with_len_more (λ k. call (path k)) 0 k k (let e : 0 + k ≡ k = omega arith in e)
+  calls_more : (k : ℕ) → calls_of level page call (k + 1) ≡ calls_of level page call k ++ call (place k) ∷ []
+  calls_more k = map-range_with_len_more (λ k. call (place k)) 0 k k (let e : 0 + k ≡ k = omega arith in e)
 
   -- one call more, at a page of this table
-  module _ (k : ℕ) (small : i + k < 512) (inside : done + k < total) (from : Memory) (told : List Reply) (so_far : IsChangeRun l m (calls_of L level page call (done + k)) told from) where
+  module _ (k : ℕ) (small : i + k < 512) (inside : done + k < total) (from : Memory) (told : List Reply) (so_far : IsChangeRun l m (calls_of level page call (done + k)) told from) where
     abbrev p : List ℕ
     p = parents ++ (i + k) ∷ []
 
     at_page : (P : List ℕ → Type 0) → P (path (done + k)) → P p
     at_page P h = subst P (later_path k small) h
 
-    allowed_now : allowed L l.window (paths (l laid_in from)) (call p) ≡ true
-    allowed_now = at_page (λ q. allowed L l.window (paths (l laid_in from)) (call q) ≡ true) (rules.still m from (path (done + k)) (may (done + k) inside))
+    allowed_now : allowed L l.window (paths (l laid_in from)) (call (place (done + k))) ≡ true
+    allowed_now = rules.still m from (place (done + k)) (may (done + k) inside)
 
     at_level : length p + level ≡ L + 1
     at_level = at_page (λ q. length q + level ≡ L + 1) (long k)
@@ -136,13 +139,14 @@ module _ (l : Layout) (apart : Distinct l.places) (level : ℕ) (low : 1 ≤ lev
     ends_parted = same_from_push (take (length parents) p) parents (get_or p (length parents) 0) (i + k) (path_parted p (length parents) size)
 
     outside : begins_with l.window p ≡ false
-    outside = rules.outside from p allowed_now
+    outside = at_page (λ q. begins_with l.window q ≡ false) (rules.outside from (place (done + k)) allowed_now)
 
     run_on : (answer : Answer) (o : Memory) → Ends l from (after from p) answer o → ((q : List ℕ) → table_at L l.root (paths (l laid_in o)) q ≡ table_at L l.root (paths (l laid_in from)) q)
-        → IsChangeRun l m (calls_of L level page call (done + k + 1)) (told ++ Answered answer ∷ []) o
+        → IsChangeRun l m (calls_of level page call (done + k + 1)) (told ++ Answered answer ∷ []) o
     run_on answer o ends same =
-        subst (λ calls. IsChangeRun l m calls (told ++ Answered answer ∷ []) o) (ap (λ q. calls_of L level page call (done + k) ++ call q ∷ []) (sym (later_path k small)) ∙ sym (calls_more (done + k)))
-        (change_more l m (calls_of L level page call (done + k)) told from so_far (call p) allowed_now (after from p) (rules.does from p) answer o ends same)
+        subst (λ calls. IsChangeRun l m calls (told ++ Answered answer ∷ []) o) (sym (calls_more (done + k)))
+        (change_more l m (calls_of level page call (done + k)) told from so_far (call (place (done + k))) allowed_now (after from p)
+        (at_page (λ q. HasRule l from (call (place (done + k))) (after from q)) (rules.does from (place (done + k)))) answer o ends same)
 
     -- its entry decides
     module _ (g e : ℕ) (found : IsFound l from parents (Ok g)) (is : word (words (l laid_in from)) g (i + k) ≡ e) (o : Memory) (set : IsSet l.places from g (i + k) (word_said e (says e)) o) where
@@ -165,7 +169,7 @@ module _ (l : Layout) (apart : Distinct l.places) (level : ℕ) (low : 1 ≤ lev
           (ended l from so_far.valid p (length parents) size says (after from p) (rules.rule from p at_level) g (subst (λ q. IsFound l from q (Ok g)) (sym ends_parted.0) found)
           apart some (subst (λ j. j < 512) (sym last) small) changes o set')
 
-      pub run_changed : IsChangeRun l m (calls_of L level page call (done + k + 1)) (told ++ Answered (answer_said (says e)) ∷ []) o
+      pub run_changed : IsChangeRun l m (calls_of level page call (done + k + 1)) (told ++ Answered (answer_said (says e)) ∷ []) o
       run_changed = run_on (answer_said (says e)) o ends stay.tables
 
       pub found_changed : IsFound l o parents (Ok g)
@@ -175,22 +179,22 @@ module _ (l : Layout) (apart : Distinct l.places) (level : ℕ) (low : 1 ≤ lev
 
   module _ (count : ℕ) (within : done + count ≤ total) where
     -- one of them
-    refuse : (k : ℕ) → k < count → (told : List Reply) → IsChangeRun l m (calls_of L level page call (done + k)) told now → (why : Refusal) → IsFound l now (table_path (path (done + k))) (Err why)
-        → IsChangeRun l m (calls_of L level page call (done + k + 1)) (told ++ Answered (Refused why) ∷ []) now
+    refuse : (k : ℕ) → k < count → (told : List Reply) → IsChangeRun l m (calls_of level page call (done + k)) told now → (why : Refusal) → IsFound l now (table_path (path (done + k))) (Err why)
+        → IsChangeRun l m (calls_of level page call (done + k + 1)) (told ++ Answered (Refused why) ∷ []) now
     refuse k less told so_far why found =
         let p = path (done + k) in
         let at_level = long k in
         let size : length p ≡ length p - 1 + 1 = omega (arith, at_level, high, levels) in
-        let may_now = rules.still m now p (may (done + k) (omega (arith, less, within))) in
+        let may_now = rules.still m now (place (done + k)) (may (done + k) (omega (arith, less, within))) in
         subst (λ calls. IsChangeRun l m calls (told ++ Answered (Refused why) ∷ []) now) (sym (calls_more (done + k)))
-        (change_more l m (calls_of L level page call (done + k)) told now so_far (call p) may_now (after now p) (rules.does now p) (Refused why) now
+        (change_more l m (calls_of level page call (done + k)) told now so_far (call (place (done + k))) may_now (after now p) (rules.does now (place (done + k))) (Refused why) now
         (stopped l now so_far.valid p (length p - 1) size says (after now p) (rules.rule now p at_level) why found) (λ q. refl))
 
     module _ (why : Refusal) (stop : AreStoppedIn l now level (page + done * span level) count why) where
-      refused_so_far : (k : ℕ) → k ≤ count → IsChangeRun l m (calls_of L level page call (done + k)) (answers ++ replicate k (Answered (Refused why))) now
-      refused_so_far zero most = subst₂ (λ k rs. IsChangeRun l m (calls_of L level page call k) rs now) (let e : done ≡ done + 0 = omega arith in e) (sym (append-nil answers)) run
+      refused_so_far : (k : ℕ) → k ≤ count → IsChangeRun l m (calls_of level page call (done + k)) (answers ++ replicate k (Answered (Refused why))) now
+      refused_so_far zero most = subst₂ (λ k rs. IsChangeRun l m (calls_of level page call k) rs now) (let e : done ≡ done + 0 = omega arith in e) (sym (append-nil answers)) run
       refused_so_far (suc k) most =
-          subst₂ (λ k rs. IsChangeRun l m (calls_of L level page call k) rs now) (let e : done + k + 1 ≡ done + suc k = omega arith in e)
+          subst₂ (λ k rs. IsChangeRun l m (calls_of level page call k) rs now) (let e : done + k + 1 ≡ done + suc k = omega arith in e)
           (append_assoc answers (replicate k (Answered (Refused why))) (Answered (Refused why) ∷ []) ∙ ap (λ rs. answers ++ rs) (push (Answered (Refused why)) k))
           (refuse k (omega (arith, most)) (answers ++ replicate k (Answered (Refused why))) (refused_so_far k (omega (arith, most))) why
           (subst (λ p. IsFound l now (table_path (path_at L level p)) (Err why)) (sym (later_page k)) (stop k (omega (arith, most)))))
@@ -199,8 +203,8 @@ module _ (l : Layout) (apart : Distinct l.places) (level : ℕ) (low : 1 ≤ lev
           push x zero = refl
           push x (suc n) = ap (λ rs. x ∷ rs) (push x n)
 
-    pub part_refused : (more : List Reply) (o : Memory) → AreRefused l now level (page + done * span level) count more o → IsChangeRun l m (calls_of L level page call (done + count)) (answers ++ more) o
-    part_refused more o part = subst₂ (λ rs o. IsChangeRun l m (calls_of L level page call (done + count)) (answers ++ rs) o) (sym part.replies) (sym part.same)
+    pub part_refused : (more : List Reply) (o : Memory) → AreRefused l now level (page + done * span level) count more o → IsChangeRun l m (calls_of level page call (done + count)) (answers ++ more) o
+    part_refused more o part = subst₂ (λ rs o. IsChangeRun l m (calls_of level page call (done + count)) (answers ++ rs) o) (sym part.replies) (sym part.same)
         (refused_so_far part.why part.stopped count (omega arith))
 
   -- ---- all entries of the part
@@ -214,14 +218,14 @@ module _ (l : Layout) (apart : Distinct l.places) (level : ℕ) (low : 1 ≤ lev
       at k = after_words l.places apart now part.frame says i part.table part.is part.long k
 
       record Here (k : ℕ) : Type 0 where
-        so_far : IsChangeRun l m (calls_of L level page call (done + k)) (answers ++ replies_said says i t k) (at k)
+        so_far : IsChangeRun l m (calls_of level page call (done + k)) (answers ++ replies_said says i t k) (at k)
         found : IsFound l (at k) parents (Ok part.frame)
 
       reached : (k : ℕ) → k ≤ count → Here k
       reached zero most =
           let same = no_word l.places apart now part.frame says i part.table part.is part.long in record {
-            so_far = subst₂ (λ k rs. IsChangeRun l m (calls_of L level page call k) rs (at 0)) (let e : done ≡ done + 0 = omega arith in e) (sym (append-nil answers))
-                (subst (λ x. IsChangeRun l m (calls_of L level page call done) answers x) (sym same) run);
+            so_far = subst₂ (λ k rs. IsChangeRun l m (calls_of level page call k) rs (at 0)) (let e : done ≡ done + 0 = omega arith in e) (sym (append-nil answers))
+                (subst (λ x. IsChangeRun l m (calls_of level page call done) answers x) (sym same) run);
             found = subst (λ x. IsFound l x parents (Ok part.frame)) (sym same) part.found;
           }
       reached (suc k) most =
@@ -232,21 +236,21 @@ module _ (l : Layout) (apart : Distinct l.places) (level : ℕ) (low : 1 ≤ lev
           let e = get_or t (i + k) 0 in
           let is = word_next l.places apart now part.frame says i part.table part.is part.long k small in
           let set = word_set l.places apart now part.frame says i part.table part.is part.long k in record {
-            so_far = subst₂ (λ j rs. IsChangeRun l m (calls_of L level page call j) rs (at (suc k))) (let same : done + k + 1 ≡ done + suc k = omega arith in same)
+            so_far = subst₂ (λ j rs. IsChangeRun l m (calls_of level page call j) rs (at (suc k))) (let same : done + k + 1 ≡ done + suc k = omega arith in same)
                 (append_assoc answers (replies_said says i t k) (Answered (answer_said (says e)) ∷ []) ∙ ap (λ rs. answers ++ rs) (sym (replies_more says i t k) ∙ ap (replies_said says i t) (let one : k + 1 ≡ suc k = omega arith in one)))
                 (run_changed k small inside (at k) told here.so_far part.frame e here.found is (at (suc k)) set);
             found = found_changed k small inside (at k) told here.so_far part.frame e here.found is (at (suc k)) set;
           }
 
-      pub part_changed : IsChangeRun l m (calls_of L level page call (done + count)) (answers ++ more) o
-      part_changed = subst₂ (λ rs o. IsChangeRun l m (calls_of L level page call (done + count)) (answers ++ rs) o) (sym part.replies) (sym part.put) (reached count (omega arith)).so_far
+      pub part_changed : IsChangeRun l m (calls_of level page call (done + count)) (answers ++ more) o
+      part_changed = subst₂ (λ rs o. IsChangeRun l m (calls_of level page call (done + count)) (answers ++ rs) o) (sym part.replies) (sym part.put) (reached count (omega arith)).so_far
 
 -- this for either kind of part
-module _ (l : Layout) (apart : Distinct l.places) (level : ℕ) (low : 1 ≤ level) (high : level ≤ 3) (levels : 3 < l.levels) (says : ℕ → Result (ℕ × ℕ) Refusal) (call : List ℕ → Call) (after : Memory → List ℕ → AfterChange)
-    (rules : IsEntryCall l level says call after) (m : Memory) (page total : ℕ) (may : (k : ℕ) → k < total → allowed l.levels l.window (paths (l laid_in m)) (call (path_at l.levels level (page + k * span level))) ≡ true)
-    (done : ℕ) (now : Memory) (answers : List Reply) (run : IsChangeRun l m (calls_of l.levels level page call done) answers now)
+module _ (l : Layout) (apart : Distinct l.places) (level : ℕ) (low : 1 ≤ level) (high : level ≤ 3) (levels : 3 < l.levels) (says : ℕ → Result (ℕ × ℕ) Refusal) (call : ℕ → Call) (after : Memory → List ℕ → AfterChange)
+    (rules : IsEntryCall l level says call after) (m : Memory) (page total : ℕ) (may : (k : ℕ) → k < total → allowed l.levels l.window (paths (l laid_in m)) (call (page + k * span level)) ≡ true)
+    (done : ℕ) (now : Memory) (answers : List Reply) (run : IsChangeRun l m (calls_of level page call done) answers now)
     (count : ℕ) (within : done + count ≤ total) (more : List Reply) (o : Memory) where
-  pub pages_changed : IsPartChanged l now level (page + done * span level) says count more o → IsChangeRun l m (calls_of l.levels level page call (done + count)) (answers ++ more) o
+  pub pages_changed : IsPartChanged l now level (page + done * span level) says count more o → IsChangeRun l m (calls_of level page call (done + count)) (answers ++ more) o
   pages_changed (inl h) = part_changed l apart level low high levels says call after rules m page total may done now answers run count h.0 within more o h.1
   pages_changed (inr h) = part_refused l apart level low high levels says call after rules m page total may done now answers run count within more o h
 

@@ -59,8 +59,8 @@ arrives_then more x y z one two w is =
 pub accepted_more : (r : MapRange) (k : ℕ) → accepted_maps r (k + 1) ≡ accepted_maps r k ++ Answered (Done (range_frame r k)) ∷ []
 accepted_more r k = map-range_with_len_more (λ k. Answered (Done (range_frame r k))) 0 k k (let e : 0 + k ≡ k = omega arith in e)
 
-maps_more : (L : ℕ) (r : MapRange) (k : ℕ) → maps L r (k + 1) ≡ maps L r k ++ map_at L r k ∷ []
-maps_more L r k = map-range_with_len_more (λ k. map_at L r k) 0 k k (let e : 0 + k ≡ k = omega arith in e)
+maps_more : (r : MapRange) (k : ℕ) → maps r (k + 1) ≡ maps r k ++ map_at r k ∷ []
+maps_more r k = map-range_with_len_more (λ k. map_at r k) 0 k k (let e : 0 + k ≡ k = omega arith in e)
 
 module _ (l : Layout) (m : Memory) (s : List ℕ) (r : MapRange) (k : ℕ) (marks : IsParentFlags r.parent_flags) (n : Memory) (rest : List ℕ) (replies : List Reply) (run : IsRangeRun l m s r k replies n rest) where
   abbrev q : List ℕ
@@ -69,15 +69,15 @@ module _ (l : Layout) (m : Memory) (s : List ℕ) (r : MapRange) (k : ℕ) (mark
   -- one map more
   module _ (allowed : map_allowed l.levels l.window (paths (l laid_in n)) q r.flags r.parent_flags ≡ true) (answer : Answer) (o : Memory) (fs : List ℕ)
       (mapped : IsPathMapped l n rest r.parent_flags q (leaf_entry l.levels q (range_frame r k) r.flags) (range_frame r k) answer o fs) where
-    one : (take_back : List ℕ → ℕ → List ℕ) → step (machine_of l take_back) (state_in l n rest) (map_at l.levels r k) ≡ record { state = state_in l o fs; reply = Answered answer }
+    one : (take_back : List ℕ → ℕ → List ℕ) → step (machine_of l take_back) (state_in l n rest) (map_at r k) ≡ record { state = state_in l o fs; reply = Answered answer }
     unfolding do_call
-    one take_back = ap (λ b. cond b (do_call (machine_of l take_back) (state_in l n rest) (map_at l.levels r k)) (only_reply (state_in l n rest) NotAllowed)) allowed
+    one take_back = ap (λ b. cond b (do_call (machine_of l take_back) (state_in l n rest) (map_at r k)) (only_reply (state_in l n rest) NotAllowed)) allowed
         ∙ ap after_map mapped.outcome
 
     walks_on : (p : ℕ) → Arrives r.parent_flags (walk (l laid_in n) p) (walk (l laid_in o) p)
     walks_on = walks_after l n rest q (range_frame r k) r.flags r.parent_flags answer o fs marks run.owned.ready mapped.outcome mapped.owned.ready
 
-    next : IsNextMap (l laid_in n) rest (map_at l.levels r k) replies (replies ++ Answered answer ∷ []) (l laid_in o) fs
+    next : IsNextMap (l laid_in n) rest (map_at r k) replies (replies ++ Answered answer ∷ []) (l laid_in o) fs
     next = record {
       answer = answer;
       may = record { fits = run.owned.ready; allowed = allowed };
@@ -90,16 +90,16 @@ module _ (l : Layout) (m : Memory) (s : List ℕ) (r : MapRange) (k : ℕ) (mark
       replies = λ take_back.
           let machine = machine_of l take_back in
           let start = state_in l m s in
-          ap (replies_of machine start) (maps_more l.levels r k)
-          ∙ replies_append machine start (maps l.levels r k) (map_at l.levels r k ∷ [])
-          ∙ ap₂ (λ rs (t : State). rs ++ (step machine t (map_at l.levels r k)).reply ∷ []) (run.replies take_back) (run.state take_back)
+          ap (replies_of machine start) (maps_more r k)
+          ∙ replies_append machine start (maps r k) (map_at r k ∷ [])
+          ∙ ap₂ (λ rs (t : State). rs ++ (step machine t (map_at r k)).reply ∷ []) (run.replies take_back) (run.state take_back)
           ∙ ap (λ (x : AfterCall). replies ++ x.reply ∷ []) (one take_back);
       state = λ take_back.
           let machine = machine_of l take_back in
           let start = state_in l m s in
-          ap (state_after machine start) (maps_more l.levels r k)
-          ∙ state_append machine start (maps l.levels r k) (map_at l.levels r k ∷ [])
-          ∙ ap (λ (t : State). (step machine t (map_at l.levels r k)).state) (run.state take_back)
+          ap (state_after machine start) (maps_more r k)
+          ∙ state_append machine start (maps r k) (map_at r k ∷ [])
+          ∙ ap (λ (t : State). (step machine t (map_at r k)).state) (run.state take_back)
           ∙ ap (λ (x : AfterCall). x.state) (one take_back);
       owned = owned_then l m s n rest o fs run.owned mapped.owned;
       walks = λ p. arrives_then r.parent_flags (walk (l laid_in m) p) (walk (l laid_in n) p) (walk (l laid_in o) p) (run.walks p) (walks_on p);

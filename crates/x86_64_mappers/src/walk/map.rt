@@ -50,7 +50,7 @@ impl<S: PageSize> From<PageTableCreateError> for MapToError<S> {
 
 /// Makes the entry at index `k` of the parents, in the given table, name a frame. If the mapper reaches tables that no
 /// entry names, it has cleared the table in the frame before.
-// Inlined for the reason below.
+// Inlined like `link_table`, which calls it.
 #[inline(always)]
 fn name_table<M: TableAccess>(
     mapper: &mut M,

@@ -13,7 +13,7 @@ use x86_64_page::page::Size4KiB;
 use x86_64_tables::page_table::{
     EntryTarget, PageTable, PageTableEntry, PageTableFlags, Rights, has_flag,
 };
-use x86_64_tables::phys_memory::{PageTableFrameMapping, TableMemory, index_of, table_in};
+use x86_64_tables::phys_memory::{PageTableFrameMapping, TableMemory, index_of, span, table_in};
 
 /// Where a listing continues: at a position (the number of an address counted without the gap), with the remaining entries
 /// of a table, from the one that spans the position on.
@@ -220,16 +220,4 @@ fn table_below<'a, T: TableMemory, P: PageTableFrameMapping>(
         EntryTarget::Table(frame) => table_in(memory, mapping, frame),
         EntryTarget::Page | EntryTarget::Nothing => None,
     }
-}
-
-/// Returns the number of positions, and so of bytes, that an entry of a level spans: 4KiB at level one, 2MiB at level two,
-/// 1GiB at level three, 512GiB at level four, and 256TiB at level five.
-///
-/// Requires that the level is from one to five.
-pub fn span(level: u64) -> u64
-    requires low { 1 ≤ level }
-    requires high { level ≤ 5 }
-    ensures { result ≡ span_of level }
-{
-    1 << (12 + 9 * (level - 1))
 }

@@ -2,7 +2,7 @@
 ghost use Rattle.std.specs.Prelude.{◌≡◌, ◌<◌, ◌≤◌, true, option_map};
 ghost use Rattle.std.specs.Option.{option_copied};
 ghost use Rattle.x86_64_model.specs.Memory.{words_of};
-ghost use Rattle.x86_64_model.specs.Position.{index, span};
+ghost use Rattle.x86_64_model.specs.Position.{index, span as span_of};
 ghost use Rattle.x86_64_model.specs.PageWalk.{read, walk_on, page_walk as page_walk_of};
 ghost use Rattle.x86_64_tables.specs.Walks.{walked_of, arrival, ends};
 
@@ -147,4 +147,16 @@ pub fn index_of(position: u64, level: u64) -> usize
     ensures below { result < 512 }
 {
     ((position >> (12 + 9 * (level - 1))) & 511) as usize
+}
+
+/// Returns the number of positions, and so of bytes, that an entry of a level spans: 4KiB at level one, 2MiB at level two,
+/// 1GiB at level three, 512GiB at level four, and 256TiB at level five.
+///
+/// Requires that the level is from one to five.
+pub fn span(level: u64) -> u64
+    requires low { 1 ≤ level }
+    requires high { level ≤ 5 }
+    ensures { result ≡ span_of level }
+{
+    1 << (12 + 9 * (level - 1))
 }

@@ -1,6 +1,5 @@
 use Rattle.std.proofs.Common.{◌++◌, ◌+◌, ◌-◌, length, map, Some, subst, arith, rules}
 use Rattle.x86_64_model.specs.Machine.{Machine, State, state_after}
-use Rattle.x86_64.specs.Asked.{calls_by}
 use Rattle.x86_64.specs.Calls.{to_call}
 use Rattle.x86_64.specs.FreeFrames.{all_back}
 use Rattle.x86_64.specs.Runs.{machine_of, state_in, replies_to}
@@ -29,14 +28,14 @@ loop-call-preserved g c =
     let start : State = state_in layout (g.M.Tables.hierarchy c.args.mapper.now).memory (g.F.FrameAllocator.supply c.args.frames.now) in
     let before = c.loop-call.invariant in
     let after = c.serve.ensures in
-    let one = step_at layout _ before.keeps.layout g.F.FrameDeallocator.take_back _ (g.M.Tables.hierarchy c.serve.new.mapper).memory _ (g.F.FrameAllocator.supply c.serve.new.frames) (to_call g.P5.LevelFiveFlags.bits c.call-item.result) c.serve.result after.step in
+    let one = step_at layout _ before.keeps.layout g.F.FrameDeallocator.take_back _ (g.M.Tables.hierarchy c.serve.new.mapper).memory _ (g.F.FrameAllocator.supply c.serve.new.frames) (to_call g.L.LevelCount.LEVELS g.P5.LevelFiveFlags.bits c.call-item.result) c.serve.result after.step in
     record {
-      told = told_next (to_call g.P5.LevelFiveFlags.bits) machine _ _ _ calls c.loop-call.call-index c.call-item.result c.loop-call-test.true c.call-item.is one
-          c.loop-call.replies.items c.push_reserved.new.self.items (map Some c.args.replies.now.items ++ replies_to (to_call g.P5.LevelFiveFlags.bits) machine start calls) c.push_reserved.ensures.items before.told;
-      rest = rest_next (to_call g.P5.LevelFiveFlags.bits) machine _ _ c.serve.result calls c.loop-call.call-index c.call-item.result c.loop-call-test.true c.call-item.is one (state_after machine start (calls_by (to_call g.P5.LevelFiveFlags.bits) layout.levels calls)) before.rest;
-      free = free_next layout _ _ _ _ _ _ (all_back machine start (calls_by (to_call g.P5.LevelFiveFlags.bits) layout.levels calls)) _ _ _ before.free
-          (back_next (to_call g.P5.LevelFiveFlags.bits) machine _ _ c.serve.result calls c.loop-call.call-index c.call-item.result c.loop-call-test.true c.call-item.is one)
-          (free_at layout _ before.keeps.layout g.F.FrameDeallocator.take_back _ (g.M.Tables.hierarchy c.serve.new.mapper).memory _ (g.F.FrameAllocator.supply c.serve.new.frames) (to_call g.P5.LevelFiveFlags.bits c.call-item.result) after.free);
+      told = told_next (to_call g.L.LevelCount.LEVELS g.P5.LevelFiveFlags.bits) machine _ _ _ calls c.loop-call.call-index c.call-item.result c.loop-call-test.true c.call-item.is one
+          c.loop-call.replies.items c.push_reserved.new.self.items (map Some c.args.replies.now.items ++ replies_to (to_call g.L.LevelCount.LEVELS g.P5.LevelFiveFlags.bits) machine start calls) c.push_reserved.ensures.items before.told;
+      rest = rest_next (to_call g.L.LevelCount.LEVELS g.P5.LevelFiveFlags.bits) machine _ _ c.serve.result calls c.loop-call.call-index c.call-item.result c.loop-call-test.true c.call-item.is one (state_after machine start (map (to_call g.L.LevelCount.LEVELS g.P5.LevelFiveFlags.bits) calls)) before.rest;
+      free = free_next layout _ _ _ _ _ _ (all_back machine start (map (to_call g.L.LevelCount.LEVELS g.P5.LevelFiveFlags.bits) calls)) _ _ _ before.free
+          (back_next (to_call g.L.LevelCount.LEVELS g.P5.LevelFiveFlags.bits) machine _ _ c.serve.result calls c.loop-call.call-index c.call-item.result c.loop-call-test.true c.call-item.is one)
+          (free_at layout _ before.keeps.layout g.F.FrameDeallocator.take_back _ (g.M.Tables.hierarchy c.serve.new.mapper).memory _ (g.F.FrameAllocator.supply c.serve.new.frames) (to_call g.L.LevelCount.LEVELS g.P5.LevelFiveFlags.bits c.call-item.result) after.free);
       room = omega arith;
       longer = longer_next c.args.replies.now.items c.loop-call.replies.items c.push_reserved.new.self.items c.serve.result before.longer c.push_reserved.ensures.items;
       still = still_next c.args.replies.now.items c.loop-call.replies.items c.push_reserved.new.self.items c.serve.result before.longer c.push_reserved.ensures.items _ _ _ before.still after.still;
@@ -60,11 +59,11 @@ returns-clause-ran g c =
     let start : State = state_in layout (g.M.Tables.hierarchy c.args.mapper.now).memory (g.F.FrameAllocator.supply c.args.frames.now) in
     let before = c.args.replies.now.items in
     let items = c.loop-call.replies.items in
-    let replies = told_last (to_call g.P5.LevelFiveFlags.bits) machine _ calls c.loop-call.call-index (omega arith) items (map Some before ++ replies_to (to_call g.P5.LevelFiveFlags.bits) machine start calls) c.loop-call.invariant.told in
+    let replies = told_last (to_call g.L.LevelCount.LEVELS g.P5.LevelFiveFlags.bits) machine _ calls c.loop-call.call-index (omega arith) items (map Some before ++ replies_to (to_call g.L.LevelCount.LEVELS g.P5.LevelFiveFlags.bits) machine start calls) c.loop-call.invariant.told in
     record {
       replies = replies;
-      one_each = one_each (to_call g.P5.LevelFiveFlags.bits) machine start calls before items replies;
+      one_each = one_each (to_call g.L.LevelCount.LEVELS g.P5.LevelFiveFlags.bits) machine start calls before items replies;
       refused = c.loop-call.invariant.still;
-      free = free_at_last layout _ _ _ _ (all_back machine start (calls_by (to_call g.P5.LevelFiveFlags.bits) layout.levels calls)) _ c.loop-call.invariant.free (back_last (to_call g.P5.LevelFiveFlags.bits) machine _ calls c.loop-call.call-index (omega arith));
-      state = rest_last (to_call g.P5.LevelFiveFlags.bits) machine _ calls c.loop-call.call-index (omega arith) (state_after machine start (calls_by (to_call g.P5.LevelFiveFlags.bits) layout.levels calls)) c.loop-call.invariant.rest;
+      free = free_at_last layout _ _ _ _ (all_back machine start (map (to_call g.L.LevelCount.LEVELS g.P5.LevelFiveFlags.bits) calls)) _ c.loop-call.invariant.free (back_last (to_call g.L.LevelCount.LEVELS g.P5.LevelFiveFlags.bits) machine _ calls c.loop-call.call-index (omega arith));
+      state = rest_last (to_call g.L.LevelCount.LEVELS g.P5.LevelFiveFlags.bits) machine _ calls c.loop-call.call-index (omega arith) (state_after machine start (map (to_call g.L.LevelCount.LEVELS g.P5.LevelFiveFlags.bits) calls)) c.loop-call.invariant.rest;
     }

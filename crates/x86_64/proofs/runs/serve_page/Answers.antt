@@ -1,9 +1,9 @@
 use Rattle.std.proofs.Common.{◌≤◌, refl, sym, ◌∙◌, subst, lit≤, arith}
 use Rattle.x86_64_model.proofs.Lemmas.Machines.Fitting.{ready_of_fits}
 use Rattle.x86_64_model.proofs.Lemmas.Machines.Giving.{giving_from}
-use Rattle.x86_64_model.specs.PageCalls.{SetFlags}
+use Rattle.x86_64_model.specs.Call.{SetFlags}
 use Rattle.x86_64_tables.specs.PageTableFlags.{bits_of}
-use Rattle.x86_64.specs.Calls.{size_asks}
+use Rattle.x86_64.specs.Calls.{page_call}
 use Rattle.x86_64.specs.private.Served.{SetsFlags}
 use Rattle.x86_64.specs.Runs.{machine_of, state_in}
 use Rattle.x86_64.proofs.Keeping.{kept_none}
@@ -14,7 +14,7 @@ use Rattle.x86_64.proofs.runs.serve_page.Goals as goal
 use Rattle.x86_64.proofs.runs.serve_page.Goals.{in-MapTo, in-MapToWithTableFlags, in-IdentityMap, in-Unmap, in-UpdateFlags, in-SetFlagsP5, in-SetFlagsP4, in-SetFlagsP3, in-SetFlagsP2, in-TranslatePage}
 
 is_served : (g : Over) (c : goal.Joined-call g) → IsServed _ (g.M.Tables.hierarchy c.args.mapper.now).layout g.F.FrameDeallocator.take_back (g.F.FrameKeeper.serves c.args.frames.now) (g.M.Tables.hierarchy c.args.mapper.now).memory
-    (g.F.FrameAllocator.supply c.args.frames.now) g.S.PageSize.LEVEL (size_asks g.P5.LevelFiveFlags.bits c.args.call) (g.M.Tables.hierarchy c.match-call.mapper).memory (g.F.FrameAllocator.supply c.match-call.frames) c.match-call.result
+    (g.F.FrameAllocator.supply c.args.frames.now) (page_call g.S.PageSize.LEVEL g.P5.LevelFiveFlags.bits c.args.call) (g.M.Tables.hierarchy c.match-call.mapper).memory (g.F.FrameAllocator.supply c.match-call.frames) c.match-call.result
 is_served g c =
     let mapper = c.args.mapper.now in
     let start : Start (g.M.Tables.hierarchy mapper).layout g.F.FrameDeallocator.take_back (g.F.FrameKeeper.serves c.args.frames.now) (g.M.Tables.hierarchy mapper).memory (g.F.FrameAllocator.supply c.args.frames.now) g.S.PageSize.LEVEL = record {
@@ -43,7 +43,7 @@ is_served g c =
           (let five = g.met.M.TablesIn.level_count mapper ∙ g.met.P5.LevelFiveFlags.five w.in-SetFlagsP5.flags in
           let h = g.M.Tables.hierarchy mapper in
           set_flags_served h start 5 w.in-SetFlagsP5.page (g.P5.LevelFiveFlags.bits w.in-SetFlagsP5.flags) (lit≤ tt) (subst (λ n. 5 ≤ n) (sym five) (lit≤ tt)) w.set_flags.result _
-          (subst (λ given. SetsFlags h g.S.PageSize.LEVEL (SetFlags 5 w.in-SetFlagsP5.page given) w.set_flags.result (g.M.Tables.hierarchy w.set_flags.new.mapper)) w.page_table_flags.ensures.some w.set_flags.ensures.sets))
+          (subst (λ given. SetsFlags h (SetFlags 5 g.S.PageSize.LEVEL w.in-SetFlagsP5.page given) w.set_flags.result (g.M.Tables.hierarchy w.set_flags.new.mapper)) w.page_table_flags.ensures.some w.set_flags.ensures.sets))
       | in-SetFlagsP4 w ↦ rw (w.in-SetFlagsP4.is, w.mapper-is, w.frames-is, w.result-is)
           (set_flags_served (g.M.Tables.hierarchy mapper) start 4 w.in-SetFlagsP4.page (bits_of w.in-SetFlagsP4.flags) (lit≤ tt) some w.set_flags-in-SetFlagsP4.result _ w.set_flags-in-SetFlagsP4.ensures.sets)
       | in-SetFlagsP3 w ↦ rw (w.in-SetFlagsP3.is, w.mapper-is, w.frames-is, w.result-is)
@@ -88,7 +88,7 @@ pub returns-then-not-is_allowed-clause-step : goal.returns-then-not-is_allowed-c
 returns-then-not-is_allowed-clause-step g c =
     let h = g.M.Tables.hierarchy c.args.mapper.now in
     let state = state_in h.layout h.memory (g.F.FrameAllocator.supply c.args.frames.now) in
-    step_refused (machine_of h.layout g.F.FrameDeallocator.take_back) state g.S.PageSize.LEVEL (size_asks g.P5.LevelFiveFlags.bits c.args.call) (sym c.is_allowed.ensures ∙ c.if-not-is_allowed.true)
+    step_refused (machine_of h.layout g.F.FrameDeallocator.take_back) state (page_call g.S.PageSize.LEVEL g.P5.LevelFiveFlags.bits c.args.call) (sym c.is_allowed.ensures ∙ c.if-not-is_allowed.true)
 
 pub returns-then-not-is_allowed-clause-keeps : goal.returns-then-not-is_allowed-clause-keeps
 returns-then-not-is_allowed-clause-keeps g c = kept_none (g.M.Tables.hierarchy c.args.mapper.now) _ c.requires.fits

@@ -1,7 +1,6 @@
 use Rattle.std.proofs.Common.{IfOk, ◌≡◌, ◌%◌, inl, ap, ◌∙◌, subst, sym}
 use Rattle.x86_64_model.specs.Call.{MapTo}
-use Rattle.x86_64_model.proofs.Lemmas.Machines.Owners.{does_map_identity}
-use Rattle.x86_64_model.specs.Hierarchy.{MayMap, DoesMap, path_of}
+use Rattle.x86_64_model.specs.Hierarchy.{MayMap, DoesMap}
 use Rattle.x86_64_model.specs.Position.{IsCanonical, position_count}
 use Rattle.x86_64_tables.specs.MapperAnswers.{map_answer}
 use Rattle.x86_64_tables.specs.PageTableFlags.{bits_of}
@@ -19,7 +18,7 @@ map_to-requires g c =
     let value = c.as_u64.ensures.value ∙ c.start_address.ensures.value in
     let here = c.new-start.ensures.position ∙ ap (λ n. n % position_count g.L.LevelCount.LEVELS) value ∙ own_position g.L.LevelCount.LEVELS c.args.frame g.L.LevelCount.known_levels c.requires.low in
     let page = starts_there c.args.frame g.S.PageSize.SIZE _ _ c.start_address.ensures.aligned here c.containing_address.ensures in
-    subst (λ p. MayMap h supply (MapTo (path_of h g.S.PageSize.LEVEL p) c.args.frame (bits_of c.args.flags))) (sym page) c.requires.may
+    subst (λ p. MayMap h supply (MapTo g.S.PageSize.LEVEL p c.args.frame (bits_of c.args.flags))) (sym page) c.requires.may
 
 pub returns-clause-does : goal.returns-clause-does
 returns-clause-does g c =
@@ -32,8 +31,7 @@ returns-clause-does g c =
     let rest = g.A.FrameAllocator.supply c.map_to.new.frame_allocator in
     let answer = map_answer c.args.frame c.map_to.result in
     record {
-      map = does_map_identity h supply answer after rest g.S.PageSize.LEVEL c.args.frame (bits_of c.args.flags)
-          (subst (λ p. DoesMap h supply (MapTo (path_of h g.S.PageSize.LEVEL p) c.args.frame (bits_of c.args.flags)) answer after rest) page c.map_to.ensures.does.map);
+      map = subst (λ p. DoesMap h supply (MapTo g.S.PageSize.LEVEL p c.args.frame (bits_of c.args.flags)) answer after rest) page c.map_to.ensures.does.map;
       serves = c.map_to.ensures.does.serves;
     }
 

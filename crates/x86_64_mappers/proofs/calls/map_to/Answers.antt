@@ -1,7 +1,6 @@
 use Rattle.std.proofs.Common.{ℕ, rules, subst, sym}
 use Rattle.x86_64_model.specs.Call.{MapToWithTableFlags}
-use Rattle.x86_64_model.proofs.Lemmas.Machines.Owners.{may_map_to, does_map_to}
-use Rattle.x86_64_model.specs.Hierarchy.{MayMap, DoesMap, path_of}
+use Rattle.x86_64_model.specs.Hierarchy.{MayMap, DoesMap}
 use Rattle.x86_64_tables.specs.MapperAnswers.{map_answer}
 use Rattle.x86_64_tables.specs.PageTableFlags.{bits_of}
 use Rattle.x86_64_mappers.proofs.Map.MapArrivals.{map_arrives}
@@ -11,22 +10,19 @@ pub map_to_with_table_flags-requires : goal.map_to_with_table_flags-requires
 map_to_with_table_flags-requires g c =
     let h = g.M.Tables.hierarchy c.args.mapper.now in
     let supply = g.A.FrameAllocator.supply c.args.frame_allocator.now in
-    let page = path_of h g.S.PageSize.LEVEL c.args.page in
-    subst (λ (more : ℕ). MayMap h supply (MapToWithTableFlags page c.args.frame (bits_of c.args.flags) more)) (sym c.parent_flags-parent_flags.ensures)
-    (may_map_to h supply page c.args.frame (bits_of c.args.flags) c.requires)
+    subst (λ (more : ℕ). MayMap h supply (MapToWithTableFlags g.S.PageSize.LEVEL c.args.page c.args.frame (bits_of c.args.flags) more)) (sym c.parent_flags-parent_flags.ensures) c.requires
 
 pub returns-clause-does : goal.returns-clause-does
 returns-clause-does g c =
     let h = g.M.Tables.hierarchy c.args.mapper.now in
     let supply = g.A.FrameAllocator.supply c.args.frame_allocator.now in
-    let page = path_of h g.S.PageSize.LEVEL c.args.page in
     let done = c.map_to_with_table_flags in
     let after = g.M.Tables.hierarchy done.new.mapper in
     let rest = g.A.FrameAllocator.supply done.new.frame_allocator in
     let answer = map_answer c.args.frame done.result in
     record {
-      map = does_map_to h supply answer after rest page c.args.frame (bits_of c.args.flags)
-          (subst (λ (more : ℕ). DoesMap h supply (MapToWithTableFlags page c.args.frame (bits_of c.args.flags) more) answer after rest) c.parent_flags-parent_flags.ensures done.ensures.does.map);
+      map = subst (λ (more : ℕ). DoesMap h supply (MapToWithTableFlags g.S.PageSize.LEVEL c.args.page c.args.frame (bits_of c.args.flags) more) answer after rest)
+          c.parent_flags-parent_flags.ensures done.ensures.does.map;
       serves = done.ensures.does.serves;
     }
 
@@ -35,7 +31,6 @@ returns-clause-arrives g c =
     let mapper = c.args.mapper.now in
     let h = g.M.Tables.hierarchy mapper in
     let supply = g.A.FrameAllocator.supply c.args.frame_allocator.now in
-    let page = path_of h g.S.PageSize.LEVEL c.args.page in
     let done = c.map_to_with_table_flags in
     let after = g.M.Tables.hierarchy done.new.mapper in
     let rest = g.A.FrameAllocator.supply done.new.frame_allocator in

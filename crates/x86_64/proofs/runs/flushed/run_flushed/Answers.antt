@@ -20,8 +20,8 @@ returns-clause-flushed g c =
     let now = c.serve_all.new.replies.items in
     record {
       items = subst (λ n. c.serve_all.new.tokens.items ≡ c.args.recorder.now.items ++ items_told n (appended before now)) (sym levels) (search rules);
-      suffice = flushed (to_call bits) h.layout (subst IsLevelCount (sym levels) g.L.LevelCount.known_levels)
-          (is_call h.layout.levels (g.met.M.Tables.at_least_four mapper) bits (λ flags. levels ∙ g.met.P5.LevelFiveFlags.five flags))
+      suffice = flushed (to_call g.L.LevelCount.LEVELS bits) h.layout (subst IsLevelCount (sym levels) g.L.LevelCount.known_levels)
+          (is_call h.layout.levels (g.met.M.Tables.at_least_four mapper) bits (λ flags. levels ∙ g.met.P5.LevelFiveFlags.five flags) g.L.LevelCount.LEVELS)
           (g.M.Tables.added_flags mapper).adds g.F.FrameDeallocator.take_back (giving_from _ g.met.F.FrameDeallocator.take_back_rearranges)
           (g.F.FrameKeeper.serves c.args.frames.now) h.memory (g.F.FrameAllocator.supply c.args.frames.now) c.requires c.args.calls.now _ (g.F.FrameAllocator.supply c.serve_all.new.frames)
           c.serve_all.ensures.keeps.keeps.fits.valid ran.state _ (appended_told before now _ (search rules));

@@ -24,13 +24,13 @@ returns-in_err-same_replies-clause-one g c = record { ran = search rules; keeps 
 pub returns-in_err-same_replies-clause-other : goal.returns-in_err-same_replies-clause-other
 returns-in_err-same_replies-clause-other g c = record { ran = search rules; keeps = kept_none _ _ c.requires.other.fits }
 
-pair_after : (g : Over) (c : goal.After-drop-same_replies g) → IsPairAfter (to_call g.P5.LevelFiveFlags.bits) g.L.LevelCount.LEVELS (g.B.Tables.hierarchy c.args.b.now) c.args.pool_b.now c.args.calls.now c.serve_all.new.replies.items
+pair_after : (g : Over) (c : goal.After-drop-same_replies g) → IsPairAfter (to_call g.L.LevelCount.LEVELS g.P5.LevelFiveFlags.bits) g.L.LevelCount.LEVELS (g.B.Tables.hierarchy c.args.b.now) c.args.pool_b.now c.args.calls.now c.serve_all.new.replies.items
     (g.A.Tables.hierarchy c.serve_all.new.mapper) c.serve_all.new.frames (g.B.Tables.hierarchy c.serve_all-2.new.mapper) c.serve_all-2.new.frames
 pair_after g c =
     let h = g.A.Tables.hierarchy c.args.a.now in
     let k = g.B.Tables.hierarchy c.args.b.now in
-    let bits = g.P5.LevelFiveFlags.bits in
-    let pair : IsPair (to_call bits) g.L.LevelCount.LEVELS h c.args.pool_a.now k c.args.pool_b.now c.args.calls.now = record {
+    let asks = to_call g.L.LevelCount.LEVELS g.P5.LevelFiveFlags.bits in
+    let pair : IsPair asks g.L.LevelCount.LEVELS h c.args.pool_a.now k c.args.pool_b.now c.args.calls.now = record {
       levels = g.met.A.TablesIn.level_count c.args.a.now;
       other_levels = g.met.B.TablesIn.level_count c.args.b.now;
       adds = g.A.Tables.added_flags c.args.a.now;
@@ -39,9 +39,9 @@ pair_after g c =
       other = c.requires.other;
       alike = c.requires.alike;
     } in
-    let ran = from_none (to_call bits) h c.args.pool_a.now c.args.calls.now _ _ _ _ c.in_ok-replies.ensures.items c.serve_all.ensures.ran in
-    let other_ran = from_none (to_call bits) k c.args.pool_b.now c.args.calls.now _ _ _ _ c.in_ok-same_replies.ensures.items c.serve_all-2.ensures.ran in
-    still_pair (to_call bits) g.L.LevelCount.LEVELS (is_call g.L.LevelCount.LEVELS g.L.LevelCount.at_least_four bits g.met.P5.LevelFiveFlags.five) g.L.LevelCount.at_least_four h _ k _ _ pair _ _ _ c.serve_all.ensures.keeps.layout ran _ _ _ c.serve_all-2.ensures.keeps.layout other_ran
+    let ran = from_none asks h c.args.pool_a.now c.args.calls.now _ _ _ _ c.in_ok-replies.ensures.items c.serve_all.ensures.ran in
+    let other_ran = from_none asks k c.args.pool_b.now c.args.calls.now _ _ _ _ c.in_ok-same_replies.ensures.items c.serve_all-2.ensures.ran in
+    still_pair asks g.L.LevelCount.LEVELS (is_call g.L.LevelCount.LEVELS g.L.LevelCount.at_least_four g.P5.LevelFiveFlags.bits g.met.P5.LevelFiveFlags.five g.L.LevelCount.LEVELS) g.L.LevelCount.at_least_four h _ k _ _ pair _ _ _ c.serve_all.ensures.keeps.layout ran _ _ _ c.serve_all-2.ensures.keeps.layout other_ran
 
 pub returns-clause-other : goal.returns-clause-other
 returns-clause-other g c = record { ran = (pair_after g c).ran; keeps = c.serve_all-2.ensures.keeps }

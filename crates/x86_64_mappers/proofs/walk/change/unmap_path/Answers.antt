@@ -53,7 +53,7 @@ ends g c =
     subst (λ a. Ends l m (after_unmap l m q) a n) (sym answer)
     (ended l m c.requires.may.valid q (length q - 1) (has_last_index q some) (unmap_says level) _ (unmap_rule l m level q c.requires.levels) changed.frame changed.found
     (g.met.M.Tables.is_mapping s).distinct (positive_levels l.levels (g.met.M.Tables.at_least_four s)) changed.inside
-    (unmap_changes l m level q c.requires.levels (unmap_outside l.levels l.window (paths (l laid_in m)) q c.requires.may.allowed) g.S.PageSize.high some) n
+    (unmap_changes l m level q c.requires.levels (unmap_outside l.window q c.requires.may.allowed) g.S.PageSize.high some) n
     (subst (λ w. IsSet l.places m changed.frame (get_or q (length q - 1) 0) w n) wrote changed.set))
 
 pub returns : goal.returns

@@ -65,7 +65,7 @@ ends g c =
     let some = some_index_of l.levels q level c.requires.levels (page_below_root l.levels level (g.met.M.Tables.at_least_four s) g.S.PageSize.high) in
     ended l m c.requires.may.valid q (length q - 1) (has_last_index q some) (update_says level given) _ (update_rule l m level q c.requires.levels given) changed.frame changed.found
     (g.met.M.Tables.is_mapping s).distinct (positive_levels l.levels (g.met.M.Tables.at_least_four s)) changed.inside
-    (update_changes l m level q c.requires.levels (update_outside l.levels l.window (paths (l laid_in m)) q given c.requires.may.allowed) g.S.PageSize.high some given) n
+    (update_changes l m level q c.requires.levels (update_outside l.window q given c.requires.may.allowed) g.S.PageSize.high some given) n
     (subst (λ w. IsSet l.places m changed.frame (get_or q (length q - 1) 0) w n) wrote changed.set)
 
 pub returns : goal.returns

@@ -40,7 +40,7 @@ parts-preserved g c =
     let page = c.args.page in
     let done = c.parts.done in
     let inv = c.parts.invariant in
-    let may : (k : ℕ) → k < c.args.count → allowed l.levels l.window (paths (l laid_in m)) (Unmap (path_at l.levels level (page + k * span level))) ≡ true = λ k less. ap not (c.requires.pages.outside k less) in
+    let may : (k : ℕ) → k < c.args.count → allowed l.levels l.window (paths (l laid_in m)) (Unmap level (page + k * span level)) ≡ true = λ k less. ap not (c.requires.pages.outside k less) in
     let now = (g.M.Tables.hierarchy c.parts.mapper).memory in
     let after = g.M.Tables.hierarchy c.unmap_part-done.new.mapper in
     let count = c.unmap_part-done.result in
@@ -50,7 +50,7 @@ parts-preserved g c =
     let part = subst₂ (λ (l : Layout) p. IsPartChanged l now level p (unmap_says level) count told.0 after.memory) inv.layout here told.1 in record {
       run = (
         inv.run.0 ++ told.0,
-        pages_changed l (g.met.M.Tables.is_mapping s).distinct level g.S.PageSize.low g.S.PageSize.high (g.met.M.Tables.at_least_four s) (unmap_says level) (λ q. Unmap q) (λ m q. after_unmap l m q)
+        pages_changed l (g.met.M.Tables.is_mapping s).distinct level g.S.PageSize.low g.S.PageSize.high (g.met.M.Tables.at_least_four s) (unmap_says level) (λ p. Unmap level p) (λ m q. after_unmap l m q)
             (unmap_is l level g.S.PageSize.high) m page c.args.count may done now inv.run.0 inv.run.1 count inside told.0 after.memory part,
         told.2 ∙ ap (λ sink. fold g.K.FrameSink.with_frame sink (frames_done told.0)) inv.run.2
             ∙ sym (fold-append g.K.FrameSink.with_frame c.args.sink.now (frames_done inv.run.0) (frames_done told.0))
@@ -74,8 +74,8 @@ returns-clause-does g c =
     let h = g.M.Tables.hierarchy c.args.mapper.now in
     let inv = c.parts.invariant in
     let all : c.parts.done ≡ c.args.count = (let most = inv.within in let least = c.parts-test.false in omega (arith, most, least)) in
-    let run = subst (λ k. IsChangeRun h.layout h.memory (unmaps h.layout.levels g.S.PageSize.LEVEL c.args.page k) inv.run.0 (g.M.Tables.hierarchy c.parts.mapper).memory) all inv.run.1 in (
+    let run = subst (λ k. IsChangeRun h.layout h.memory (unmaps g.S.PageSize.LEVEL c.args.page k) inv.run.0 (g.M.Tables.hierarchy c.parts.mapper).memory) all inv.run.1 in (
       inv.run.0,
-      ends_changes h (g.M.Tables.hierarchy c.parts.mapper) (unmaps h.layout.levels g.S.PageSize.LEVEL c.args.page c.args.count) inv.run.0 inv.layout inv.lent run,
+      ends_changes h (g.M.Tables.hierarchy c.parts.mapper) (unmaps g.S.PageSize.LEVEL c.args.page c.args.count) inv.run.0 inv.layout inv.lent run,
       inv.run.2,
     )

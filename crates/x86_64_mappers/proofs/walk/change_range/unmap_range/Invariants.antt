@@ -10,7 +10,7 @@ invariant-parts g l =
     let before = g.M.Tables.hierarchy l.fn.mapper in
     let now = g.M.Tables.hierarchy l.mapper in
     record {
-      run : (answers : List Reply) × IsChangeRun before.layout before.memory (unmaps before.layout.levels g.S.PageSize.LEVEL l.page l.done) answers now.memory × (l.sink ≡ fold g.K.FrameSink.with_frame l.fn.sink (frames_done answers));
+      run : (answers : List Reply) × IsChangeRun before.layout before.memory (unmaps g.S.PageSize.LEVEL l.page l.done) answers now.memory × (l.sink ≡ fold g.K.FrameSink.with_frame l.fn.sink (frames_done answers));
       within : l.done ≤ l.count;
       layout : now.layout ≡ before.layout;
       lent : now.lent ≡ before.lent;

@@ -42,7 +42,7 @@ parts-preserved g c =
     let given = c.args.flags.0 in
     let done = c.parts.done in
     let inv = c.parts.invariant in
-    let may : (k : ℕ) → k < c.args.count → allowed l.levels l.window (paths (l laid_in m)) (UpdateFlags (path_at l.levels level (page + k * span level)) given) ≡ true = λ k less.
+    let may : (k : ℕ) → k < c.args.count → allowed l.levels l.window (paths (l laid_in m)) (UpdateFlags level (page + k * span level) given) ≡ true = λ k less.
     ap₂ (λ a b. a && not b) c.requires.flags (c.requires.pages.outside k less) in
     let now = (g.M.Tables.hierarchy c.parts.mapper).memory in
     let after = g.M.Tables.hierarchy c.update_part-part.new.mapper in
@@ -53,7 +53,7 @@ parts-preserved g c =
     let part = subst₂ (λ (l : Layout) p. IsPartChanged l now level p (update_says level given) count told.0 after.memory) inv.layout here told.1 in record {
       run = (
         inv.run.0 ++ told.0,
-        pages_changed l (g.met.M.Tables.is_mapping s).distinct level g.S.PageSize.low g.S.PageSize.high (g.met.M.Tables.at_least_four s) (update_says level given) (λ q. UpdateFlags q given) (λ m q. after_update l m q given)
+        pages_changed l (g.met.M.Tables.is_mapping s).distinct level g.S.PageSize.low g.S.PageSize.high (g.met.M.Tables.at_least_four s) (update_says level given) (λ p. UpdateFlags level p given) (λ m q. after_update l m q given)
             (update_is l level g.S.PageSize.high given) m page c.args.count may done now inv.run.0 inv.run.1 count inside told.0 after.memory part,
         ap₂ (λ a b. a + b) inv.run.2 told.2 ∙ sym (length-append (frames_done inv.run.0) (frames_done told.0)) ∙ ap length (sym (frames_append inv.run.0 told.0)),
       );
@@ -72,8 +72,8 @@ returns-clause-does g c =
     let h = g.M.Tables.hierarchy c.args.mapper.now in
     let inv = c.parts.invariant in
     let all : c.parts.done ≡ c.args.count = (let most = inv.within in let least = c.parts-test.false in omega (arith, most, least)) in
-    let run = subst (λ k. IsChangeRun h.layout h.memory (updates h.layout.levels g.S.PageSize.LEVEL c.args.page c.args.flags.0 k) inv.run.0 (g.M.Tables.hierarchy c.parts.mapper).memory) all inv.run.1 in (
+    let run = subst (λ k. IsChangeRun h.layout h.memory (updates g.S.PageSize.LEVEL c.args.page c.args.flags.0 k) inv.run.0 (g.M.Tables.hierarchy c.parts.mapper).memory) all inv.run.1 in (
       inv.run.0,
-      ends_changes h (g.M.Tables.hierarchy c.parts.mapper) (updates h.layout.levels g.S.PageSize.LEVEL c.args.page c.args.flags.0 c.args.count) inv.run.0 inv.layout inv.lent run,
+      ends_changes h (g.M.Tables.hierarchy c.parts.mapper) (updates g.S.PageSize.LEVEL c.args.page c.args.flags.0 c.args.count) inv.run.0 inv.layout inv.lent run,
       inv.run.2,
     )

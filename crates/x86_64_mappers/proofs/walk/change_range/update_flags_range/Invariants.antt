@@ -11,7 +11,7 @@ invariant-parts g l =
     let before = g.M.Tables.hierarchy l.fn.mapper in
     let now = g.M.Tables.hierarchy l.mapper in
     record {
-      run : (answers : List Reply) × IsChangeRun before.layout before.memory (updates before.layout.levels g.S.PageSize.LEVEL l.page (bits_of l.flags) l.done) answers now.memory × (l.changed ≡ length (frames_done answers));
+      run : (answers : List Reply) × IsChangeRun before.layout before.memory (updates g.S.PageSize.LEVEL l.page (bits_of l.flags) l.done) answers now.memory × (l.changed ≡ length (frames_done answers));
       few : l.changed ≤ l.done;
       within : l.done ≤ l.count;
       layout : now.layout ≡ before.layout;
