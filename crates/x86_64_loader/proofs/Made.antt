@@ -17,7 +17,6 @@ use Rattle.x86_64_model.proofs.Lemmas.Runs.Runs.{replies_append, state_append}
 use Rattle.x86_64_tables.specs.MapperAnswers.{map_answer}
 use Rattle.x86_64_tables.specs.declared.errors.MapToError.{MapToError}
 use Rattle.x86_64_mappers.specs.Supplies.{Supply, MapsFrom}
-use Rattle.x86_64.specs.Asked as asked
 use Rattle.x86_64.specs.Pairs.{put_first}
 use Rattle.x86_64.specs.declared.call_values.PageReply.TheVariants as reply
 use Rattle.x86_64.proofs.FreeFrames.{nothing_keeps_free}
@@ -116,5 +115,5 @@ kept_one {S = S} h after supply rest level page frame given low high some adds m
     start : (serves : ℕ → Bool) → PoolFits h serves supply.frames → Start h.layout put_first serves h.memory supply.frames level
     start serves fits = record { at_least_four = some; adds = adds; gives = gives_first; mapping = mapping; fits = fits; low = low; high = high }
 
-    served : (serves : ℕ → Bool) (fits : PoolFits h serves supply.frames) → Serves S h.layout put_first serves h.memory supply.frames level (asked.MapTo page frame given) after.memory rest.frames (reply.Map result)
+    served : (serves : ℕ → Bool) (fits : PoolFits h serves supply.frames) → Serves S h.layout put_first serves h.memory supply.frames (MapTo level page frame given) after.memory rest.frames (reply.Map result)
     served serves fits = map_to_served h (start serves fits) page frame given result after rest.frames does.map same result refl may.allowed

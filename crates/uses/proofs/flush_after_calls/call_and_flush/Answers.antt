@@ -1,5 +1,4 @@
-use Rattle.std.proofs.Common.{◌≡◌, true, [], option_map, unwrap_or, sym, subst}
-use Rattle.x86_64_model.specs.Call.{IsCall}
+use Rattle.std.proofs.Common.{◌≡◌, true, [], option_map, unwrap_or, sym, ◌∙◌, subst}
 use Rattle.x86_64_model.specs.Hierarchy.{◌laid_in◌, PoolFits}
 use Rattle.x86_64_model.specs.Window.{Window}
 use Rattle.x86_64.specs.Calls.{to_call, page_of_call}
@@ -32,7 +31,7 @@ returns-clause-again g c =
     let after = g.C.Processor.cached c.execute.new.processor in
     let arises : IsReachable l take_back serves n rest after [] =
     arises_by_flushed_calls l take_back serves m n (g.F.FrameAllocator.supply c.args.frames.now) rest call c.run_call-reply.result true
-    (subst (λ L. IsCall L call) (sym levels) (is_call g.L.LevelCount.LEVELS g.L.LevelCount.at_least_four g.P5.LevelFiveFlags.bits g.met.P5.LevelFiveFlags.five c.args.call))
+    (is_call l.levels (g.met.M.Tables.at_least_four mapper) g.P5.LevelFiveFlags.bits (λ flags. levels ∙ g.met.P5.LevelFiveFlags.five flags) g.L.LevelCount.LEVELS c.args.call)
     c.requires.fits ran.step ran.free ran.keeps.keeps.fits (λ no. cc)
     flush (subst (λ L. TellsFlush L call c.run_call-reply.result (option_map (λ (w : Window). w.index) l.window) true flush) (sym levels) (rw (c.recursive_index.ensures, ran.keeps.layout) at c.flush_after-flush.ensures))
     before first second after c.requires.arises

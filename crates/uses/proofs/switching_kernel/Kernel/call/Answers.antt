@@ -19,7 +19,7 @@ returns-clause-runs g c =
     let there : In c.cache.new.self.processes.items c.args.process.now = rw c.cache.ensures.same c.requires.process in
     let own : IsOwnCall c.cache.new.self.late c.args.process.now (to_call 4 no_bits c.args.call) = rw c.cache.ensures.same c.requires.own in
     let made = c.call_on.ensures in
-    runs_called s c.cache.ensures.runs c.args.process.now there (to_call 4 no_bits c.args.call) c.call_on.result (is_call 4 (lit< tt) no_bits (λ flags. elim flags [ ]) c.args.call) own
+    runs_called s c.cache.ensures.runs c.args.process.now there (to_call 4 no_bits c.args.call) c.call_on.result (is_call 4 (lit< tt) no_bits (λ flags. elim flags [ ]) 4 c.args.call) own
     (g.T.TableMemory.tables c.call_on.new.memory) c.call_on.new.frames.frames made.step made.free made.beside (serves_below c.call_on.new.frames.limit) made.same.1
 
 pub returns-clause-step : goal.returns-clause-step
@@ -31,5 +31,5 @@ returns-clause-others g c =
     let there : In c.cache.new.self.processes.items c.args.process.now = rw c.cache.ensures.same c.requires.process in
     let own : IsOwnCall c.cache.new.self.late c.args.process.now (to_call 4 no_bits c.args.call) = rw c.cache.ensures.same c.requires.own in
     let made = c.call_on.ensures in
-    rw c.cache.ensures.same at (runs_others s c.cache.ensures.runs c.args.process.now there (to_call 4 no_bits c.args.call) c.call_on.result (is_call 4 (lit< tt) no_bits (λ flags. elim flags [ ]) c.args.call) own
+    rw c.cache.ensures.same at (runs_others s c.cache.ensures.runs c.args.process.now there (to_call 4 no_bits c.args.call) c.call_on.result (is_call 4 (lit< tt) no_bits (λ flags. elim flags [ ]) 4 c.args.call) own
     (g.T.TableMemory.tables c.call_on.new.memory) c.call_on.new.frames.frames made.step made.free made.beside)
