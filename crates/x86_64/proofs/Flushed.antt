@@ -36,29 +36,29 @@ module _ (S : Type 0) (L size level : ℕ) (is : (page : ℕ) → item_of (page_
   abbrev items : SizeReply S → List flush.Item
   items told = map item_of (size_items L size told)
 
-  one_item : (l page : ℕ) → l ≡ level → (told answer : SizeReply S) → items told ≡ item_of (page_item L page size) ∷ [] → Some told ≡ Some answer → items answer ≡ flush.OnePage (path_at L l page) ∷ []
-  one_item l page on told answer here e = ap items (sym (same_Some _ _ e)) ∙ here ∙ ap (λ i. i ∷ []) (is page ∙ ap (λ l. flush.OnePage (path_at L l page)) (sym on))
+  one_item : (l page : ℕ) → l ≡ level → (told : SizeReply S) → items told ≡ item_of (page_item L page size) ∷ [] → (answer : SizeReply S) → Some told ≡ Some answer → items answer ≡ flush.OnePage (path_at L l page) ∷ []
+  one_item l page on told here answer e = ap items (sym (same_Some _ _ e)) ∙ here ∙ ap (λ i. i ∷ []) (is page ∙ ap (λ l. flush.OnePage (path_at L l page)) (sym on))
 
   none_refused : {E : Type 0} (wrap : E → SizeReply S) → ((why : E) → items (wrap why) ≡ []) → (error : Option E) (answer : SizeReply S) → option_map wrap error ≡ Some answer → items answer ≡ []
   none_refused wrap none None answer e = cc
   none_refused wrap none (Some why) answer e = ap items (sym (same_Some _ _ e)) ∙ none why
 
   size_items_are : (call : Call) → IsOnPage level call → (a : Answer) (answer : SizeReply S) → size_reply call a ≡ Some answer → items answer ≡ flush.items_of L call (machine.Answered a)
-  size_items_are (MapTo l page frame flags) on (Done f) answer = one_item l page on _ answer refl
+  size_items_are (MapTo l page frame flags) on (Done f) = one_item l page on _ refl
   size_items_are (MapTo l page frame flags) on (Refused why) = none_refused (λ w. page_reply.Map (Err w)) (λ w. refl) (map_error why)
-  size_items_are (MapToWithTableFlags l page frame flags more) on (Done f) answer = one_item l page on _ answer refl
+  size_items_are (MapToWithTableFlags l page frame flags more) on (Done f) = one_item l page on _ refl
   size_items_are (MapToWithTableFlags l page frame flags more) on (Refused why) = none_refused (λ w. page_reply.Map (Err w)) (λ w. refl) (map_error why)
-  size_items_are (IdentityMap l frame flags) on (Done f) answer = one_item l frame on _ answer refl
+  size_items_are (IdentityMap l frame flags) on (Done f) = one_item l frame on _ refl
   size_items_are (IdentityMap l frame flags) on (Refused why) = none_refused (λ w. page_reply.Map (Err w)) (λ w. refl) (map_error why)
-  size_items_are (Unmap l page) on (Done f) answer = one_item l page on _ answer refl
+  size_items_are (Unmap l page) on (Done f) = one_item l page on _ refl
   size_items_are (Unmap l page) on (Refused why) = none_refused (λ w. page_reply.Unmap (Err w)) (λ w. refl) (unmap_error why)
-  size_items_are (UpdateFlags l page flags) on (Done f) answer = one_item l page on _ answer refl
+  size_items_are (UpdateFlags l page flags) on (Done f) = one_item l page on _ refl
   size_items_are (UpdateFlags l page flags) on (Refused why) = none_refused (λ w. page_reply.Update (Err w)) (λ w. refl) (update_error why)
-  size_items_are (SetFlags at l page flags) on (Done f) answer e = ap items (sym (same_Some _ _ e))
+  size_items_are (SetFlags at l page flags) on (Done f) = λ answer e. ap items (sym (same_Some _ _ e))
   size_items_are (SetFlags at l page flags) on (Refused why) = none_refused (λ w. page_reply.TableFlags (Err w)) (λ w. refl) (update_error why)
-  size_items_are (TranslatePage l page) on (Done f) answer e = ap items (sym (same_Some _ _ e))
+  size_items_are (TranslatePage l page) on (Done f) = λ answer e. ap items (sym (same_Some _ _ e))
   size_items_are (TranslatePage l page) on (Refused why) = none_refused (λ w. page_reply.Frame (Err w)) (λ w. refl) (translate_error why)
-  size_items_are call on a answer e = absurd on
+  size_items_are call on a = λ answer e. absurd on
 
 -- the item of a page of a size
 item_is : (L size page : ℕ) → IsLevelCount L → item_of (page_item L page size) ≡ flush.OnePage (path_at L (level_of_size size) page)

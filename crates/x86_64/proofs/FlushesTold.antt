@@ -61,12 +61,12 @@ not_allowed L window freed (CleanUp low high) level on = absurd on
 not_allowed L window freed call level on = refl
 
 module _ {S : Type 0} (takes shown : Bool) where
-  by_answer : (f : Flush) (told answer : SizeReply S) → f ≡ page_flush takes shown told → Some told ≡ Some answer → f ≡ page_flush takes shown answer
-  by_answer f told answer tells e = tells ∙ ap (page_flush takes shown) (same_Some _ _ e)
+  by_answer : (f : Flush) (told : SizeReply S) → f ≡ page_flush takes shown told → (answer : SizeReply S) → Some told ≡ Some answer → f ≡ page_flush takes shown answer
+  by_answer f told tells answer e = tells ∙ ap (page_flush takes shown) (same_Some _ _ e)
 
   by_refusal : {E : Type 0} (f : Flush) (wrap : E → SizeReply S) (error : Option E) → ((w : E) → f ≡ page_flush takes shown (wrap w)) → (answer : SizeReply S) → option_map wrap error ≡ Some answer → f ≡ page_flush takes shown answer
   by_refusal f wrap None tells answer e = cc
-  by_refusal f wrap (Some w) tells answer e = by_answer f (wrap w) answer (tells w) e
+  by_refusal f wrap (Some w) tells answer e = by_answer f (wrap w) (tells w) answer e
 
 module _ (S : Type 0) (L level : ℕ) (small : Bool) (is : (page : ℕ) → is_small L (path_at L level page) ≡ small) (window : Option Window) (freed : List ℕ) where
   abbrev shown : Bool
@@ -76,21 +76,21 @@ module _ (S : Type 0) (L level : ℕ) (small : Bool) (is : (page : ℕ) → is_s
   changed_at l page frame on = ap (λ b. flush_for (PageDue (path_at L l page) frame ∷ cond b [] (if_window window))) (ap (λ l. is_small L (path_at L l page)) on ∙ is page) ∙ changed (path_at L l page) frame small window
 
   answer_tells : (call : Call) → IsOnPage level call → (a : Answer) (answer : SizeReply S) → size_reply call a ≡ Some answer → flush_for (flush_after L window freed call (machine.Answered a)) ≡ page_flush (takes call) shown answer
-  answer_tells (MapTo l page frame flags) on (Done f) answer = by_answer false shown Nothing _ answer refl
+  answer_tells (MapTo l page frame flags) on (Done f) = by_answer false shown Nothing _ refl
   answer_tells (MapTo l page frame flags) on (Refused why) = by_refusal false shown Nothing (λ w. page_reply.Map (Err w)) (map_error why) (λ w. refl)
-  answer_tells (MapToWithTableFlags l page frame flags more) on (Done f) answer = by_answer (no_execute more) shown _ _ answer (marked (no_execute more) (take 1 (path_at L l page)) window)
+  answer_tells (MapToWithTableFlags l page frame flags more) on (Done f) = by_answer (no_execute more) shown _ _ (marked (no_execute more) (take 1 (path_at L l page)) window)
   answer_tells (MapToWithTableFlags l page frame flags more) on (Refused why) = by_refusal (no_execute more) shown _ (λ w. page_reply.Map (Err w)) (map_error why) (λ w. marked (no_execute more) (take 1 (path_at L l page)) window)
-  answer_tells (IdentityMap l frame flags) on (Done f) answer = by_answer false shown Nothing _ answer refl
+  answer_tells (IdentityMap l frame flags) on (Done f) = by_answer false shown Nothing _ refl
   answer_tells (IdentityMap l frame flags) on (Refused why) = by_refusal false shown Nothing (λ w. page_reply.Map (Err w)) (map_error why) (λ w. refl)
-  answer_tells (Unmap l page) on (Done f) answer = by_answer false shown _ _ answer (changed_at l page f on)
+  answer_tells (Unmap l page) on (Done f) = by_answer false shown _ _ (changed_at l page f on)
   answer_tells (Unmap l page) on (Refused why) = by_refusal false shown Nothing (λ w. page_reply.Unmap (Err w)) (unmap_error why) (λ w. refl)
-  answer_tells (UpdateFlags l page flags) on (Done f) answer = by_answer false shown _ _ answer (changed_at l page f on)
+  answer_tells (UpdateFlags l page flags) on (Done f) = by_answer false shown _ _ (changed_at l page f on)
   answer_tells (UpdateFlags l page flags) on (Refused why) = by_refusal false shown Nothing (λ w. page_reply.Update (Err w)) (update_error why) (λ w. refl)
-  answer_tells (SetFlags at l page flags) on (Done f) answer = by_answer false shown _ _ answer (below (front_at L at (path_at L l page)) window)
+  answer_tells (SetFlags at l page flags) on (Done f) = by_answer false shown _ _ (below (front_at L at (path_at L l page)) window)
   answer_tells (SetFlags at l page flags) on (Refused why) = by_refusal false shown Nothing (λ w. page_reply.TableFlags (Err w)) (update_error why) (λ w. refl)
-  answer_tells (TranslatePage l page) on (Done f) answer = by_answer false shown Nothing _ answer refl
+  answer_tells (TranslatePage l page) on (Done f) = by_answer false shown Nothing _ refl
   answer_tells (TranslatePage l page) on (Refused why) = by_refusal false shown Nothing (λ w. page_reply.Frame (Err w)) (translate_error why) (λ w. refl)
-  answer_tells call on a answer e = absurd on
+  answer_tells call on a = λ answer e. absurd on
 
 pub told_by : (L : ℕ) → 3 < L → (window : Option Window) (freed : List ℕ) (call : Call) (r : machine.Reply) (x : Reply) → reply_of call r ≡ Some x
     → flush_for (flush_after L window freed call r) ≡ flush_by (takes call) (is_some window) x

@@ -8,7 +8,6 @@ use Rattle.x86_64_model.specs.Machine.{Machine, State, step}
 use Rattle.x86_64_model.specs.Path.{path_at}
 use Rattle.x86_64_model.specs.Position.{span}
 use Rattle.x86_64_model.specs.Refusal.{Done, Refused}
-use Rattle.x86_64_model.proofs.Lemmas.Machines.Effects.{page_at_level}
 use Rattle.x86_64_model.proofs.Lemmas.Machines.Laws.{flushes_are_enough}
 use Rattle.x86_64_tables.specs.FlushRecorder.{flush_range, page_item, page_items, range_items}
 use Rattle.x86_64_tables.specs.declared.tokens.recorder.FlushItem.TheVariants.{All}
@@ -72,8 +71,11 @@ are_calls L call each a (suc n) = (each a, are_calls L call each (a + 1) n)
 -- ---- both together
 
 module _ (m : Machine) (known : (m.levels ≡ 4) ⊎ (m.levels ≡ 5)) (level page count : ℕ) (low : 1 ≤ level) (high : level ≤ 3) where
+  abbrev start : ℕ → ℕ
+  start k = page + k * span level
+
   abbrev path : ℕ → List ℕ
-  path k = path_at m.levels level (page + k * span level)
+  path k = path_at m.levels level (start k)
 
   levels : level ≤ m.levels
   levels = elim known [ inl four ↦ omega (arith, four, high) | inr five ↦ omega (arith, five, high) ]
@@ -83,14 +85,14 @@ module _ (m : Machine) (known : (m.levels ≡ 4) ⊎ (m.levels ≡ 5)) (level pa
     are : AllCalls m.levels calls
     none : NoneOf m.levels (all_items m s calls) p
 
-  pass : (calls : List Call) → AreChanges m.levels level page count calls → (p : ℕ) → ((k : ℕ) → k < count → covers m.levels (OnePage (path k)) p ≡ false) → (s : State) → Pass p s calls
+  pass : (calls : List Call) → AreChanges level page count calls → (p : ℕ) → ((k : ℕ) → k < count → covers m.levels (OnePage (path k)) p ≡ false) → (s : State) → Pass p s calls
   pass calls (inl is) p none s = subst (Pass p s) (sym is) (record {
-    are = are_calls m.levels (λ k. Unmap (path k)) (λ k. page_at_level m.levels level (page + k * span level) low high levels) 0 count;
-    none = none_of_calls m p (λ k. Unmap (path k)) (λ k. k < count) (λ k less reply. none_done m.levels p (OnePage (path k)) (none k less) reply) 0 count s (λ k less. omega (arith, less));
+    are = are_calls m.levels (λ k. Unmap level (start k)) (λ k. (low, high, levels)) 0 count;
+    none = none_of_calls m p (λ k. Unmap level (start k)) (λ k. k < count) (λ k less reply. none_done m.levels p (OnePage (path k)) (none k less) reply) 0 count s (λ k less. omega (arith, less));
   })
   pass calls (inr (given, is)) p none s = subst (Pass p s) (sym is) (record {
-    are = are_calls m.levels (λ k. UpdateFlags (path k) given) (λ k. page_at_level m.levels level (page + k * span level) low high levels) 0 count;
-    none = none_of_calls m p (λ k. UpdateFlags (path k) given) (λ k. k < count) (λ k less reply. none_done m.levels p (OnePage (path k)) (none k less) reply) 0 count s (λ k less. omega (arith, less));
+    are = are_calls m.levels (λ k. UpdateFlags level (start k) given) (λ k. (low, high, levels)) 0 count;
+    none = none_of_calls m p (λ k. UpdateFlags level (start k) given) (λ k. k < count) (λ k less reply. none_done m.levels p (OnePage (path k)) (none k less) reply) 0 count s (λ k less. omega (arith, less));
   })
 
 pub range_flushes_suffice : RangeFlushesSuffice

@@ -5,7 +5,6 @@ use Rattle.std.specs.List.{range_with_len}
 use Rattle.x86_64_model.specs.Call.{Call, Unmap, UpdateFlags, Reply, NotAllowed, Answered, Position, Address, Cleaned}
 use Rattle.x86_64_model.specs.Machine.{replies_of, state_after}
 use Rattle.x86_64_model.specs.Hierarchy.{Hierarchy, Valid, SupplyFits, KeepsOthers, machine_of, state_of, path_of, paths}
-use Rattle.x86_64_model.specs.Path.{path_at}
 use Rattle.x86_64_model.specs.Pool.{IsTable}
 use Rattle.x86_64_model.specs.Position.{span, position_count}
 use Rattle.x86_64_model.specs.Refusal.{Done, Refused}

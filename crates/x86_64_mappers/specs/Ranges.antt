@@ -6,7 +6,6 @@ use Rattle.x86_64_model.specs.Call.{Call, MapToWithTableFlags, Reply, Answered}
 use Rattle.x86_64_model.specs.Lists.{In}
 use Rattle.x86_64_model.specs.Machine.{replies_of, state_after}
 use Rattle.x86_64_model.specs.Hierarchy.{Hierarchy, SupplyFits, MayMap, DoesMap, Owns, KeepsOthers, allows_map, machine_of, state_of, path_of, walk}
-use Rattle.x86_64_model.specs.Path.{path_at}
 use Rattle.x86_64_model.specs.Position.{span, position_count}
 use Rattle.x86_64_model.specs.Refusal.{Refusal, Answer, Done, Refused}
 use Rattle.x86_64_tables.specs.MapperAnswers.{map_refusal}

@@ -22,3 +22,4 @@ pub use summaries::{
     visit_selected_mappings,
 };
 pub use walk_entries::{EntriesRead, MOST_LEVELS, WalkEnd, WalkEntry, read_entries};
+pub use x86_64_tables::phys_memory::span;

@@ -1,5 +1,5 @@
 -- The tests of ranges of pages, which look at the first and the last page alone.
-use Rattle.std.proofs.Common.{◌≡◌, ◌⊎◌, inl, inr, ◌<◌, ◌≤◌, ◌+◌, ◌-◌, ◌*◌, ◌/◌, ◌%◌, ◌^◌, ◌↔◌, ◌==◌, ◌&&◌, ◌||◌, ℕ, Bool, true, false, not, List, Option, Some, None, option_map, refl, sym, ap, ◌∙◌, subst, arith, lt-ltb, eq-eqb, eqb-true, nat_lt, IsTrue}
+use Rattle.std.proofs.Common.{◌≡◌, ◌⊎◌, inl, inr, ◌<◌, ◌≤◌, ◌+◌, ◌-◌, ◌*◌, ◌/◌, ◌%◌, ◌^◌, ◌↔◌, ◌==◌, ◌&&◌, ◌||◌, ℕ, Bool, true, false, not, List, Option, Some, option_map, refl, sym, ap, ◌∙◌, subst, arith, lt-ltb, eq-eqb, eqb-true, nat_lt, IsTrue}
 use Rattle.std.proofs.Math.Nat.{mod-eq_of_lt, mul-div_left, mul-mod_right, mul-le-mul_right, le_of_mul-le-mul_right, add-mul, div-lt_iff_lt-mul, le-div_iff_mul-le, div-mul-le_self, add-mul-mod_self_right}
 use Rattle.std.proofs.lemmas.Bool.{and_from, and_parts, cases_lt, ltb-true, true≢false}
 use Rattle.std.proofs.lemmas.Nat.{div-add-mod', pow-add}

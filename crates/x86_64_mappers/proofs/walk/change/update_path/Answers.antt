@@ -1,6 +1,6 @@
 use Rattle.std.proofs.Common.{◌≡◌, ◌-◌, ℕ, rules, length, get_or, refl, sym, subst}
 use Rattle.std.proofs.lemmas.Result.{err_from_is_err_and}
-use Rattle.x86_64_model.specs.Hierarchy.{◌laid_in◌, paths, words}
+use Rattle.x86_64_model.specs.Hierarchy.{◌laid_in◌, words}
 use Rattle.x86_64_model.specs.private.MapperCalls.{after_update}
 use Rattle.x86_64_model.specs.Memory.{word}
 use Rattle.x86_64_model.specs.Refusal.{Refused, refusal_of}

@@ -47,8 +47,8 @@ returns-in_err-table-clause-maps g c =
     let may = map_may l.levels l.window (paths (l laid_in m)) q c.args.flags.0 more c.requires.may.allowed in
     let e = err_from_is_err_and c.from_residual.result c.from_residual.ensures.1 in
     rw (e.1, e.2) (ends_map (g.M.Tables.hierarchy s) (g.A.FrameAllocator.supply c.args.frame_allocator.now) q c.args.frame c.args.flags.0 more (g.M.Tables.hierarchy c.create_tables.new.mapper) c.create_tables.ensures.layout c.create_tables.ensures.lent _ _
-          (page_stopped l (g.met.M.Tables.is_mapping s).distinct m (g.A.FrameAllocator.supply c.args.frame_allocator.now) g.S.PageSize.LEVEL q (length q - 1) size c.requires.levels
-          c.args.frame c.args.flags.0 more c.requires.may.fits may.marks (create_refusal c.in_err-table.field-0.0) (g.M.Tables.hierarchy c.create_tables.new.mapper).memory _ c.in_err-table.ensures.made.down))
+    (page_stopped l (g.met.M.Tables.is_mapping s).distinct m (g.A.FrameAllocator.supply c.args.frame_allocator.now) g.S.PageSize.LEVEL q (length q - 1) size c.requires.levels
+    c.args.frame c.args.flags.0 more c.requires.may.fits may.marks (create_refusal c.in_err-table.field-0.0) (g.M.Tables.hierarchy c.create_tables.new.mapper).memory _ c.in_err-table.ensures.made.down))
 
 pub returns-in_err-table-clause-serves : goal.returns-in_err-table-clause-serves
 returns-in_err-table-clause-serves g c = c.in_err-table.ensures.made.serves
@@ -64,11 +64,11 @@ returns-clause-maps g c =
     let size = has_last_index q (some_index_of l.levels q g.S.PageSize.LEVEL c.requires.levels (page_below_root l.levels g.S.PageSize.LEVEL (g.met.M.Tables.at_least_four s) g.S.PageSize.high)) in
     let may = map_may l.levels l.window (paths (l laid_in m)) q c.args.flags.0 more c.requires.may.allowed in
     ends_map (g.M.Tables.hierarchy s) (g.A.FrameAllocator.supply c.args.frame_allocator.now) q c.args.frame c.args.flags.0 more (g.M.Tables.hierarchy c.set_leaf.new.mapper)
-          (c.set_leaf.ensures.layout ∙ c.create_tables.ensures.layout) (c.set_leaf.ensures.lent ∙ c.create_tables.ensures.lent) _ _
-          (page_mapped l (g.met.M.Tables.is_mapping s).distinct m (g.A.FrameAllocator.supply c.args.frame_allocator.now) g.S.PageSize.LEVEL q (length q - 1) size c.requires.levels
-          c.args.frame c.args.flags.0 more c.requires.may.fits may.marks g.S.PageSize.low g.S.PageSize.high may.outside (g.M.Tables.hierarchy c.create_tables.new.mapper).memory _ c.in_ok-table.table c.in_ok-table.ensures.made.down
-          i (last_item q i size c.index-path-last.is) c.set_leaf.ensures.index
-          (map_answer c.args.frame c.set_leaf.result) (g.M.Tables.hierarchy c.set_leaf.new.mapper).memory (rw c.create_tables.ensures.layout at c.set_leaf.ensures.set))
+    (c.set_leaf.ensures.layout ∙ c.create_tables.ensures.layout) (c.set_leaf.ensures.lent ∙ c.create_tables.ensures.lent) _ _
+    (page_mapped l (g.met.M.Tables.is_mapping s).distinct m (g.A.FrameAllocator.supply c.args.frame_allocator.now) g.S.PageSize.LEVEL q (length q - 1) size c.requires.levels
+    c.args.frame c.args.flags.0 more c.requires.may.fits may.marks g.S.PageSize.low g.S.PageSize.high may.outside (g.M.Tables.hierarchy c.create_tables.new.mapper).memory _ c.in_ok-table.table c.in_ok-table.ensures.made.down
+    i (last_item q i size c.index-path-last.is) c.set_leaf.ensures.index
+    (map_answer c.args.frame c.set_leaf.result) (g.M.Tables.hierarchy c.set_leaf.new.mapper).memory (rw c.create_tables.ensures.layout at c.set_leaf.ensures.set))
 
 pub returns-clause-serves : goal.returns-clause-serves
 returns-clause-serves g c = c.create_tables.ensures.made.serves
