@@ -3,10 +3,11 @@ use Rattle.std.proofs.Common.{◌≡◌, ◌<◌, ◌≤◌, ℕ, Bool, true, fa
 use Rattle.std.proofs.lemmas.Option.{same_Some}
 use Rattle.std.specs.Result.{IfOk, is_err}
 use Rattle.x86_64_model.specs.Entry.{IsParentFlags}
-use Rattle.x86_64_model.specs.MapRule.{map_call, parent_part}
+use Rattle.x86_64_model.specs.MapRule.{AfterMap, map_call, parent_part}
 use Rattle.x86_64_model.specs.Memory.{Memory, IsMapping}
 use Rattle.x86_64_model.specs.Layout.{Layout}
 use Rattle.x86_64_model.specs.Store.{KeepsPool}
+use Rattle.x86_64_model.specs.PageRules.{AfterChange}
 use Rattle.x86_64_model.specs.Path.{path_at}
 use Rattle.x86_64_model.specs.Refusal.{Answer}
 use Rattle.x86_64_model.specs.Pool.{TakesBack}
@@ -14,7 +15,7 @@ use Rattle.x86_64_model.specs.Allowed.{allowed, refuses}
 use Rattle.x86_64_model.specs.Call as machine
 use Rattle.x86_64_model.specs.Call.{Call, IsCall, IsPageLevel, MapTo, MapToWithTableFlags, IdentityMap, Unmap, UpdateFlags, SetFlags, TranslatePage}
 use Rattle.x86_64_model.specs.Machine.{Machine, State, AfterCall, only_reply, do_call, step}
-use Rattle.x86_64_model.specs.Hierarchy.{◌laid_in◌, Hierarchy, IsStep, Does, DoesMap, page_translation, KeepsOthers, Owns, PoolFits, SupplyFits, paths, words}
+use Rattle.x86_64_model.specs.Hierarchy.{◌laid_in◌, Hierarchy, IsStep, Changes, Does, DoesMap, Maps, page_translation, KeepsOthers, Owns, PoolFits, SupplyFits, paths, words}
 use Rattle.x86_64_model.proofs.Lemmas.Machines.Effects.{page_of_level}
 use Rattle.x86_64_tables.specs.MapperAnswers.{map_answer, map_refusal, unmap_answer, refusal_of_unmap, flags_refusal, flags_answer, refusal_of_update, translate_answer, refusal_of_translate}
 use Rattle.x86_64_tables.specs.declared.errors.MapToError.{MapToError}
@@ -233,10 +234,10 @@ pub record IsKept {Lent : Type 0} (h after : Hierarchy Lent) (served served_afte
   pub layout : after.layout ≡ h.layout
   pub lent : after.lent ≡ h.lent
 
-pub map_kept : {Lent : Type 0} (h : Hierarchy Lent) {supply : List ℕ} {call : Call} {answer : Answer} {after : Hierarchy Lent} {rest : List ℕ} {served served_after : ℕ → Bool} → DoesMap h supply call answer after rest → served_after ≡ served → IsKept h after served served_after
+pub map_kept : {Lent : Type 0} (h : Hierarchy Lent) {supply : List ℕ} {rule : Option AfterMap} {flags : Option ℕ} {answer : Answer} {after : Hierarchy Lent} {rest : List ℕ} {served served_after : ℕ → Bool} → Maps h supply rule flags answer after rest → served_after ≡ served → IsKept h after served served_after
 map_kept h does same = record { serves = same; layout = does.layout; lent = does.lent }
 
-pub change_kept : {Lent : Type 0} (h : Hierarchy Lent) {call : Call} {answer : Answer} {after : Hierarchy Lent} {served : ℕ → Bool} → Does h call answer after → IsKept h after served served
+pub change_kept : {Lent : Type 0} (h : Hierarchy Lent) {rule : Option AfterChange} {answer : Answer} {after : Hierarchy Lent} {served : ℕ → Bool} → Changes h rule answer after → IsKept h after served served
 change_kept h does = record { serves = refl; layout = does.layout; lent = does.lent }
 
 -- a call that isn't allowed changes nothing

@@ -1,7 +1,7 @@
 -- A processor that switches between address spaces is reached by events, and accesses go with the page walk if nothing is due.
-use Rattle.std.proofs.Common.{◌≡◌, ◌≢◌, ◌⊎◌, inl, inr, ⊎_elim, ◌<◌, ℕ, Bool, true, false, true≢false, not, cond, List, [], ◌∷◌, ◌++◌, map, filter, Some, None, unwrap_or, refl, sym, ap, ◌∙◌, subst, eq-eqb, ne_eqb}
+use Rattle.std.proofs.Common.{◌≡◌, ◌≢◌, ◌⊎◌, inl, inr, ⊎_elim, ◌<◌, ℕ, Bool, true, false, true≢false, not, cond, List, [], ◌∷◌, ◌++◌, map, filter, Some, unwrap_or, refl, sym, ap, ◌∙◌, subst, eq-eqb, ne_eqb}
 use Rattle.std.proofs.lemmas.Bool.{and_from, cases_eq}
-use Rattle.x86_64_model.specs.Call.{Call, IsCall, parent_flags_of}
+use Rattle.x86_64_model.specs.Call.{Call, IsCall}
 use Rattle.x86_64_model.specs.Flushing as kernel
 use Rattle.x86_64_model.specs.Flushing.{Due, PageDue, TablesDue, StayFree, LosesNothing, freed_by, mapped_by}
 use Rattle.x86_64_model.specs.Laws.SwitchedSpaces.{space_for, between, started_in, call_events, CallsOn}

@@ -1,8 +1,8 @@
 -- A processor that switches between address spaces of a memory, caches what it finds and marks it, between the calls and flushes
 -- of a kernel.
-use Rattle.std.specs.Prelude.{◌≡◌, ◌≢◌, ◌<◌, ◌++◌, ℕ, Bool, true, false, cond, List, [], ◌∷◌, map, Some, None, option_map, unwrap_or}
+use Rattle.std.specs.Prelude.{◌≡◌, ◌≢◌, ◌<◌, ◌++◌, ℕ, Bool, true, false, cond, List, [], ◌∷◌, map, Some, option_map, unwrap_or}
 use Rattle.x86_64_model.specs.Caches.{PartialWalk, MayAccess, walk_with_rights}
-use Rattle.x86_64_model.specs.Call.{Call, IsCall, parent_flags_of}
+use Rattle.x86_64_model.specs.Call.{Call, IsCall}
 use Rattle.x86_64_model.specs.Entry.{IsParentFlags}
 use Rattle.x86_64_model.specs.Flushing.{Due, PageDue, StayFree, due_after, mapped_by}
 use Rattle.x86_64_model.specs.Laws.Caches.{WalksThere}
@@ -11,7 +11,6 @@ use Rattle.x86_64_model.specs.Laws.SwitchedSpaces.{between, started_in, AllShare
 use Rattle.x86_64_model.specs.Laws.Switches.{Switches, due_here}
 use Rattle.x86_64_model.specs.Layout.{Layout}
 use Rattle.x86_64_model.specs.Lists.{In}
-use Rattle.x86_64_model.specs.Machine.{step}
 use Rattle.x86_64_model.specs.Hierarchy.{machine_of, state_in}
 use Rattle.x86_64_model.specs.MaySwitch.{AllMaySwitch, after_switches}
 use Rattle.x86_64_model.specs.Memory.{Memory, Places, IsMapping, words_of}
