@@ -7,12 +7,13 @@ use Rattle.x86_64_model.specs.Hierarchy.{Hierarchy, ArrivesIn, DoesMap, allows, 
 use Rattle.x86_64_model.specs.MapRule.{parent_part}
 use Rattle.x86_64_model.specs.Refusal.{Answer, Done}
 
--- If the hierarchy allows the map of a page, the map has this answer, and it leaves the hierarchy `after` and the rest of the supply.
+-- If the hierarchy allows the map of a page, the map has this answer, and it leaves the hierarchy `after` and the rest of the
+-- supply.
 abbrev pub MapsIfAllowed : {Lent : Type 0} → (h : Hierarchy Lent) → (supply : List ℕ) → Call → Answer → (after : Hierarchy Lent) → (rest : List ℕ) → Type 0
 MapsIfAllowed h supply call answer after rest = allows h call ≡ true → DoesMap h supply call answer after rest
 
--- If the hierarchy allows the map of a page, the map has this answer, and turns the path map and the supply into those after it, by
--- the rule of maps.
+-- If the hierarchy allows the map of a page, the map has this answer, and turns the path map and the supply into those after it,
+-- by the rule of maps.
 abbrev pub StepsIfAllowed : {Lent : Type 0} → (h : Hierarchy Lent) → (supply : List ℕ) → Call → Answer → (after : Hierarchy Lent) → (rest : List ℕ) → Type 0
 StepsIfAllowed h supply call answer after rest = allows h call ≡ true
     → map_outcome h.layout.levels h.layout.added_flags (paths h) supply call ≡ Some (record { paths = paths after; supply = rest; answer = answer })
@@ -40,6 +41,7 @@ MayMapBuffer h range count = (present range.parent_flags ≡ true) × MayMapRang
 
 -- ---- a list of calls
 
--- Three calls, with four levels: the first maps a page, the second unmaps it, and the third returns the frames of all empty tables.
+-- Three calls, with four levels: the first maps a page, the second unmaps it, and the third returns the frames of all empty
+-- tables.
 abbrev pub three_calls : (page frame flags : ℕ) → List Call
 three_calls page frame given = MapTo 1 page frame given ∷ Unmap 1 page ∷ CleanUp 0 0xffff_ffff_ffff ∷ []

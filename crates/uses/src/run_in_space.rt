@@ -81,8 +81,8 @@ pub fn call_on<
         Stepped (h (T.tables memory.old)) (store_of F.FrameStore frames.old) (to_call L.LEVELS P5.bits call)
         result (h (T.tables memory.new)) (F.supply frames.new) }
     ensures free { let h = hierarchy_at L.LEVELS (P.places mapping) root in
-        LeavesFree (h (T.tables memory.old)) (store_of F.FrameStore frames.old) (to_call L.LEVELS P5.bits call)
-        (h (T.tables memory.new)) (F.supply frames.new) }
+        LeavesFree (h (T.tables memory.old)) (store_of F.FrameStore frames.old)
+        (to_call L.LEVELS P5.bits call) (h (T.tables memory.new)) (F.supply frames.new) }
     ensures beside { LeavesSpaces (hierarchy_at L.LEVELS (P.places mapping) root (T.tables memory.old))
         (store_of F.FrameStore frames.old) (to_call L.LEVELS P5.bits call ∷ [])
         (T.tables memory.new) (F.supply frames.new) }
