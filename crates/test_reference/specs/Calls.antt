@@ -50,13 +50,13 @@ translated_of (Mapped size frame offset flags) = translation.Mapped size frame o
 
 -- The plain program's call, as that of the model.
 abbrev pub plain_call : PlainCall → call.Call
-plain_call (MapTo page frame flags) = call.MapTo page.items frame flags
-plain_call (MapToWithTableFlags page frame flags parent_flags) = call.MapToWithTableFlags page.items frame flags parent_flags
+plain_call (MapTo page frame flags) = call.MapTo page.level page.position frame flags
+plain_call (MapToWithTableFlags page frame flags parent_flags) = call.MapToWithTableFlags page.level page.position frame flags parent_flags
 plain_call (IdentityMap level frame flags) = call.IdentityMap level frame flags
-plain_call (Unmap page) = call.Unmap page.items
-plain_call (UpdateFlags page flags) = call.UpdateFlags page.items flags
-plain_call (SetFlags level page flags) = call.SetFlags level page.items flags
-plain_call (TranslatePage page) = call.TranslatePage page.items
+plain_call (Unmap page) = call.Unmap page.level page.position
+plain_call (UpdateFlags page flags) = call.UpdateFlags page.level page.position flags
+plain_call (SetFlags level page flags) = call.SetFlags level page.level page.position flags
+plain_call (TranslatePage page) = call.TranslatePage page.level page.position
 plain_call (Translate position) = call.Translate position
 plain_call (TranslateAddress position) = call.TranslateAddress position
 plain_call (CleanUp low high) = call.CleanUp low high

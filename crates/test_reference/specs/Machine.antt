@@ -1,5 +1,5 @@
 -- The plain program's machine and states as those of the model.
-use Rattle.std.specs.Prelude.{ℕ, ◌+◌, ◌^◌, ◌<◌, List}
+use Rattle.std.specs.Prelude.{◌+◌, ◌^◌, ◌<◌}
 use Rattle.x86_64_model.specs.Store.{put_first}
 use Rattle.x86_64_model.specs.Translation.{Translated, NotMapped, Mapped}
 use Rattle.x86_64_model.specs.Call.{Call}

@@ -1,10 +1,9 @@
 //! Which calls are allowed.
 ghost use Rattle.std.specs.Prelude.{◌≡◌, ◌≤◌, ℕ, IfOk};
 ghost use Rattle.x86_64_model.specs.Path.{parents};
-ghost use Rattle.x86_64_model.specs.Call.{IdentityMap, SetFlags};
 ghost use Rattle.x86_64_model.specs.PageRules.{set_flags};
 ghost use Rattle.x86_64_model.specs.MapRule.{parent_part as parent_part_of};
-ghost use Rattle.x86_64_model.specs.Allowed.{allowed as allowed_of, refuses, both_or_none as both_or_none_of, parents_present as parents_present_of, map_allowed as map_allowed_of, set_flags_allowed as set_flags_allowed_of};
+ghost use Rattle.x86_64_model.specs.Allowed.{allowed as allowed_of, refuses, both_or_none as both_or_none_of, parents_present as parents_present_of, map_allowed as map_allowed_of, set_flags_allowed as set_flags_allowed_of, table_flags_allowed};
 ghost use Rattle.test_reference.specs.Fronts.{first_present};
 ghost use Rattle.test_reference.specs.Windows.{window_of, entry_read};
 ghost use Rattle.test_reference.specs.Calls.{plain_call};
@@ -70,22 +69,6 @@ impl PlainMachine {
         self.map_allowed(paths, page, flags, parent_part(flags))
     }
 
-    /// Returns true if a map of the page of a level at the frame's own address is allowed.
-    fn is_identity_map_allowed(
-        &self,
-        paths: &PathEntries,
-        level: usize,
-        frame: u64,
-        flags: u64,
-    ) -> Result<bool, AllocError>
-        requires { self.now.levels ≤ 5 }
-        ensures { let call = IdentityMap level frame flags in
-            IfOk result (λ b. b ≡ allowed_of self.now.levels (window_of self.now.window) paths.now call) }
-    {
-        let page = path_at(*paths.items.allocator(), self.levels, level, frame)?;
-        Ok((frame < lower_half(self.levels)) & self.map_to_allowed(paths, &page, flags))
-    }
-
     /// Returns true if `set_flags` is refused, whatever the flags.
     fn set_flags_refuses(&self, paths: &PathEntries, level: usize, page: &[u64]) -> bool
         requires { self.now.levels ≤ 5 }
@@ -121,8 +104,8 @@ impl PlainMachine {
         flags: u64,
     ) -> bool
         requires { self.now.levels ≤ 5 }
-        ensures { let call = SetFlags level page.now flags in
-            result ≡ allowed_of self.now.levels (window_of self.now.window) paths.now call }
+        ensures { let allows = table_flags_allowed self.now.levels (window_of self.now.window) in
+            result ≡ allows paths.now level page.now flags }
     {
         no_address(flags)
             & !begins_with(self.window, page)
@@ -135,25 +118,40 @@ impl PlainMachine {
         ensures { let allows = allowed_of self.now.levels (window_of self.now.window) in
             IfOk result (λ b. b ≡ allows paths.now (plain_call call.now)) }
     {
-        match call {
-            PlainCall::MapTo { page, flags, .. } => { Ok(self.map_to_allowed(paths, page, *flags)) }
+        let (alloc, levels) = (*paths.items.allocator(), self.levels);
+        match *call {
+            PlainCall::MapTo { page, flags, .. } => {
+                let path = path_at(alloc, levels, page.level, page.position)?;
+                Ok(self.map_to_allowed(paths, &path, flags))
+            }
             PlainCall::MapToWithTableFlags {
                 page,
                 flags,
                 parent_flags,
                 ..
-            } => Ok(self.map_allowed(paths, page, *flags, *parent_flags)),
+            } => {
+                let path = path_at(alloc, levels, page.level, page.position)?;
+                Ok(self.map_allowed(paths, &path, flags, parent_flags))
+            }
             PlainCall::IdentityMap {
                 level,
                 frame,
                 flags,
-            } => self.is_identity_map_allowed(paths, *level, *frame, *flags),
-            PlainCall::Unmap { page } => Ok(!begins_with(self.window, page)),
+            } => {
+                let path = path_at(alloc, levels, level, frame)?;
+                Ok((frame < lower_half(levels)) & self.map_to_allowed(paths, &path, flags))
+            }
+            PlainCall::Unmap { page } => {
+                let path = path_at(alloc, levels, page.level, page.position)?;
+                Ok(!begins_with(self.window, &path))
+            }
             PlainCall::UpdateFlags { page, flags } => {
-                Ok(no_address(*flags) & !begins_with(self.window, page))
+                let path = path_at(alloc, levels, page.level, page.position)?;
+                Ok(no_address(flags) & !begins_with(self.window, &path))
             }
             PlainCall::SetFlags { level, page, flags } => {
-                Ok(self.is_set_flags_allowed(paths, *level, page, *flags))
+                let path = path_at(alloc, levels, page.level, page.position)?;
+                Ok(self.is_set_flags_allowed(paths, level, &path, flags))
             }
             PlainCall::TranslatePage { .. }
             | PlainCall::Translate { .. }

@@ -1,6 +1,6 @@
 //! The machine's step.
 ghost use Rattle.std.specs.Prelude.{◌≡◌, ◌≤◌, OnOk, IfOk};
-ghost use Rattle.x86_64_model.specs.Call.{MapToWithTableFlags, IdentityMap, CleanUp};
+ghost use Rattle.x86_64_model.specs.Call.{MapToWithTableFlags, CleanUp};
 ghost use Rattle.x86_64_model.specs.Pool.{with_returned};
 ghost use Rattle.x86_64_model.specs.Store.{put_first};
 ghost use Rattle.x86_64_model.specs.Translation.{translate as translate_of, address_of as address_of_translated};
@@ -11,7 +11,7 @@ ghost use Rattle.test_reference.specs.Machine.{CanAdd, plain_machine, plain_stat
 
 use crate::cleaning::CleanUpRange;
 use crate::entries::PathEntries;
-use crate::plain_calls::{PlainCall, PlainReply, Translated};
+use crate::plain_calls::{PlainCall, PlainPage, PlainReply, Translated};
 use crate::positions::path_at;
 use crate::translations::translate;
 use crate::windows::PlainWindow;
@@ -77,35 +77,20 @@ impl PlainMachine {
     fn map(
         &self,
         state: &mut PlainState,
-        page: &[u64],
+        page: PlainPage,
         frame: u64,
         flags: u64,
         parent_flags: u64,
     ) -> Result<PlainReply, AllocError>
-        ensures { let call = MapToWithTableFlags page.now frame flags parent_flags in
-            IfOk result (λ reply. plain_outcome state.new reply ≡ allowed_outcome self.now state.old call) }
-    {
-        let (paths, pool) = (&mut state.paths, &mut state.pool);
-        let answer = self.map_call(paths, pool, page, frame, flags, parent_flags)?;
-        Ok(PlainReply::Answered(answer))
-    }
-
-    /// Maps the page of a level that starts at the frame's own address.
-    #[tactic(auto, unfolding(x86_64_model::specs::Machine::do_call))]
-    fn map_identity(
-        &self,
-        state: &mut PlainState,
-        level: usize,
-        frame: u64,
-        flags: u64,
-    ) -> Result<PlainReply, AllocError>
         requires { self.now.levels ≤ 5 }
-        ensures { let call = IdentityMap level frame flags in
+        ensures { let call = MapToWithTableFlags page.level page.position frame flags parent_flags in
             IfOk result (λ reply. plain_outcome state.new reply ≡ allowed_outcome self.now state.old call) }
     {
         let alloc = *state.pool.allocator();
-        let page = path_at(alloc, self.levels, level, frame)?;
-        self.map(state, &page, frame, flags, parent_part(flags))
+        let path = path_at(alloc, self.levels, page.level, page.position)?;
+        let (paths, pool) = (&mut state.paths, &mut state.pool);
+        let answer = self.map_call(paths, pool, &path, frame, flags, parent_flags)?;
+        Ok(PlainReply::Answered(answer))
     }
 
     /// Frees the empty tables of the positions from low to high.
@@ -133,46 +118,55 @@ impl PlainMachine {
         ensures { let outcome_of = allowed_outcome self.now state.old in
             IfOk result (λ reply. plain_outcome state.new reply ≡ outcome_of (plain_call call.now)) }
     {
-        match call {
+        let (alloc, levels) = (*state.pool.allocator(), self.levels);
+        match *call {
             PlainCall::MapTo { page, frame, flags } => {
-                self.map(state, page, *frame, *flags, parent_part(*flags))
+                self.map(state, page, frame, flags, parent_part(flags))
             }
             PlainCall::MapToWithTableFlags {
                 page,
                 frame,
                 flags,
                 parent_flags,
-            } => self.map(state, page, *frame, *flags, *parent_flags),
+            } => self.map(state, page, frame, flags, parent_flags),
             PlainCall::IdentityMap {
                 level,
                 frame,
                 flags,
-            } => self.map_identity(state, *level, *frame, *flags),
+            } => {
+                let position = frame;
+                self.map(
+                    state,
+                    PlainPage { level, position },
+                    frame,
+                    flags,
+                    parent_part(flags),
+                )
+            }
             PlainCall::Unmap { page } => {
-                let answer = self.unmap(&mut state.paths, page)?;
-                Ok(PlainReply::Answered(answer))
+                let path = path_at(alloc, levels, page.level, page.position)?;
+                Ok(PlainReply::Answered(self.unmap(&mut state.paths, &path)?))
             }
             PlainCall::UpdateFlags { page, flags } => {
-                let answer = self.update_flags(&mut state.paths, page, *flags)?;
-                Ok(PlainReply::Answered(answer))
+                let path = path_at(alloc, levels, page.level, page.position)?;
+                Ok(PlainReply::Answered(self.update_flags(&mut state.paths, &path, flags)?))
             }
             PlainCall::SetFlags { level, page, flags } => {
-                let answer = self.set_flags(&mut state.paths, *level, page, *flags)?;
-                Ok(PlainReply::Answered(answer))
+                let path = path_at(alloc, levels, page.level, page.position)?;
+                Ok(PlainReply::Answered(self.set_flags(&mut state.paths, level, &path, flags)?))
             }
             PlainCall::TranslatePage { page } => {
-                let answer = self.translate_page(&state.paths, page);
-                Ok(PlainReply::Answered(answer))
+                let path = path_at(alloc, levels, page.level, page.position)?;
+                Ok(PlainReply::Answered(self.translate_page(&state.paths, &path)))
             }
             PlainCall::Translate { position } => {
-                let translated = self.translate(&state.paths, *position)?;
-                Ok(PlainReply::Position(translated))
+                Ok(PlainReply::Position(self.translate(&state.paths, position)?))
             }
             PlainCall::TranslateAddress { position } => {
-                let translated = self.translate(&state.paths, *position)?;
+                let translated = self.translate(&state.paths, position)?;
                 Ok(PlainReply::Address(address_of(translated)))
             }
-            PlainCall::CleanUp { low, high } => self.clean_up(state, *low, *high),
+            PlainCall::CleanUp { low, high } => self.clean_up(state, low, high),
         }
     }
 

@@ -38,18 +38,27 @@ pub enum Translated {
     },
 }
 
-/// A call. A page is named by the path of its entry, a frame by its address.
-#[derive(Debug, Drop)]
+/// A page.
+#[derive(Clone, Copy, Debug, PartialEq, Eq)]
+pub struct PlainPage {
+    /// The level of the entry that maps it.
+    pub level: usize,
+    /// The position of its start.
+    pub position: u64,
+}
+
+/// A call. A frame is named by its address.
+#[derive(Clone, Copy, Debug, PartialEq, Eq)]
 pub enum PlainCall {
     /// Maps a page to a frame.
     MapTo {
-        page: Vec<u64>,
+        page: PlainPage,
         frame: u64,
         flags: u64,
     },
     /// Maps a page to a frame, with flags for the page's parents.
     MapToWithTableFlags {
-        page: Vec<u64>,
+        page: PlainPage,
         frame: u64,
         flags: u64,
         parent_flags: u64,
@@ -62,22 +71,22 @@ pub enum PlainCall {
     },
     /// Unmaps a page.
     Unmap {
-        page: Vec<u64>,
+        page: PlainPage,
     },
     /// Sets the flags of a mapped page.
     UpdateFlags {
-        page: Vec<u64>,
+        page: PlainPage,
         flags: u64,
     },
     /// Sets the flags of the entry of a level on the page's path.
     SetFlags {
         level: usize,
-        page: Vec<u64>,
+        page: PlainPage,
         flags: u64,
     },
     /// Returns the frame of a mapped page.
     TranslatePage {
-        page: Vec<u64>,
+        page: PlainPage,
     },
     /// Translates a position.
     Translate {

@@ -3,7 +3,7 @@ use Rattle.std.proofs.Common.{◌≡◌, inl, inr, ⊎_elim, ◌==◌, ◌&&◌,
 use Rattle.std.proofs.lemmas.Bool.{cases_eq}
 use Rattle.x86_64_mappers.specs.Layouts.{direct}
 use Rattle.x86_64_model.specs.Call as machine
-use Rattle.x86_64_model.specs.Call.{IsCall}
+use Rattle.x86_64_model.specs.Call.{IsCall, Call, MapTo, Unmap}
 use Rattle.x86_64_model.specs.Entry.{address, has, present, global}
 use Rattle.x86_64_model.specs.Flushing.{Due, PageDue, TablesDue, flush_after, if_window, freed_by}
 use Rattle.x86_64_model.specs.Laws.Globals.{GlobalsBelow}
@@ -30,7 +30,6 @@ use Rattle.x86_64_model.proofs.Lemmas.Lists.Members.{in_append, in_map, from_map
 use Rattle.x86_64_model.proofs.Lemmas.Spaces.Paired.{spaces_are_paired}
 use Rattle.x86_64_model.proofs.Lemmas.Switches.Dues.{in_cond}
 use Rattle.x86_64_model.proofs.Lemmas.Switches.Globals.{calls_keep_globals}
-use Rattle.x86_64.specs.Asked.{MapperCall, Of4KiB, MapTo, Unmap, machine_call}
 use Rattle.x86_64.specs.FreeFrames.{KeepsFree, back_by}
 use Rattle.x86_64.specs.Replies.{Reply}
 use Rattle.x86_64.specs.Runs.{AfterStep, step_by}
@@ -49,7 +48,7 @@ path_length : (p : ℕ) → length (path_at 4 1 p) ≡ 4
 unfolding page_path
 path_length p = refl
 
-pub own_unmap_call : (a : Process) (p : ℕ) → is_kernels (index 4 p) ≡ false → IsOwnCall (Some a.pcid) a (machine_call 4 (Of4KiB (Unmap p)))
+pub own_unmap_call : (a : Process) (p : ℕ) → is_kernels (index 4 p) ≡ false → IsOwnCall (Some a.pcid) a (Unmap 1 p)
 own_unmap_call a p low = record {
   avoids = page_avoids p low;
   not_global = tt;
@@ -62,7 +61,7 @@ own_unmap_call a p low = record {
     page true f d (inr i) = absurd i
     page false f d (inr i) = absurd i
 
-    by : (freed : List ℕ) (reply : machine.Reply) (d : Due) → In (flush_after 4 None freed (machine_call 4 (Of4KiB (Unmap p))) reply) d → IsLate (Some a.pcid) (Of a.pcid) d
+    by : (freed : List ℕ) (reply : machine.Reply) (d : Due) → In (flush_after 4 None freed (Unmap 1 p) reply) d → IsLate (Some a.pcid) (Of a.pcid) d
     by freed (machine.Answered (Done f)) d i = page (is_small 4 (path_at 4 1 p)) f d i
     by freed (machine.Answered (Refused why)) d i = absurd i
     by freed machine.NotAllowed d i = absurd i
@@ -71,7 +70,7 @@ own_unmap_call a p low = record {
     by freed machine.Cleaned d i = absurd i
 
 pub own_map_call : (late : Option ℕ) (a : Process) (p frame given : ℕ) → is_kernels (index 4 p) ≡ false → address frame ≡ frame → global given ≡ false
-    → IsOwnCall late a (machine_call 4 (Of4KiB (MapTo p frame given)))
+    → IsOwnCall late a (MapTo 1 p frame given)
 own_map_call late a p frame given low at_frame plain = record {
   avoids = page_avoids p low;
   not_global = λ off. by (is_small 4 (path_at 4 1 p));
@@ -138,11 +137,11 @@ ran_first processes m store gives are a ia late now begins =
 
 -- ---- a call
 
-module _ (processes : List Process) (store : Store) (m n : Memory) (rest : List ℕ) (a : Process) (ia : In processes a) (call : MapperCall) (reply : Reply) (is_call : IsCall 4 (machine_call 4 call))
-    (late : Option ℕ) (own : IsOwnCall late a (machine_call 4 call)) (gives : TakesBack store.take_back) (are : AreProcesses processes m store)
+module _ (processes : List Process) (store : Store) (m n : Memory) (rest : List ℕ) (a : Process) (ia : In processes a) (call : Call) (reply : Reply) (is_call : IsCall 4 call)
+    (late : Option ℕ) (own : IsOwnCall late a call) (gives : TakesBack store.take_back) (are : AreProcesses processes m store)
     (steps : step_by (machine_of (space_of a) store.take_back) (state_in (space_of a) m store.frames) call ≡ record { state = state_in (space_of a) n rest; reply = Some reply })
-    (free : KeepsFree (space_of a) m store.frames (back_by (machine_of (space_of a) store.take_back) (state_in (space_of a) m store.frames) (machine_call 4 call)) n rest)
-    (beside : LeavesSpaces (space_of a laid_in m) store (machine_call 4 call ∷ []) n rest) where
+    (free : KeepsFree (space_of a) m store.frames (back_by (machine_of (space_of a) store.take_back) (state_in (space_of a) m store.frames) call) n rest)
+    (beside : LeavesSpaces (space_of a laid_in m) store (call ∷ []) n rest) where
   abbrev after : Store
   after = record store { frames = rest }
 
@@ -158,7 +157,7 @@ module _ (processes : List Process) (store : Store) (m n : Memory) (rest : List 
   own_globals : GlobalsBelow 4 is_kernels (paths (space_of a laid_in n))
   own_globals = subst (λ (s : State). GlobalsBelow 4 is_kernels s.paths) (ap (λ (x : AfterStep Reply). x.state) steps)
       (calls_keep_globals (machine_of (space_of a) store.take_back) (record { adds = no_flags; gives = gives }) no_global (words_of m identity_places) a.root store.serves
-      (state_in (space_of a) m store.frames) (are.spaces.fits (space_of a) there) is_kernels (machine_call 4 call) is_call own.not_global (are.globals a ia))
+      (state_in (space_of a) m store.frames) (are.spaces.fits (space_of a) there) is_kernels call is_call own.not_global (are.globals a ia))
 
   pub are_then : AreProcesses processes n after
   are_then = record {
@@ -207,7 +206,7 @@ module _ (processes : List Process) (store : Store) (m n : Memory) (rest : List 
         by None e i = absurd i
         by (Some r) e i = ⊎_elim
             (λ same. let its : c ≡ a.pcid = ran.own a ia c (e ∙ ap Some same) in
-            subst (λ c. IsLate late (Of c) d) (sym its) (own.due (freed_by 4 (state_in (space_of a) m store.frames) (machine_call 4 call)) (step (machine_of (space_of a) store.take_back) (state_in (space_of a) m store.frames) (machine_call 4 call)).reply d (in_cond (r == a.root) new d i)))
+            subst (λ c. IsLate late (Of c) d) (sym its) (own.due (freed_by 4 (state_in (space_of a) m store.frames) call) (step (machine_of (space_of a) store.take_back) (state_in (space_of a) m store.frames) call).reply d (in_cond (r == a.root) new d i)))
             (λ apart. absurd (subst (λ b. In (cond b new []) d) (ne_eqb r a.root apart) i))
             (cases_eq r a.root)
 
@@ -226,11 +225,11 @@ module _ (processes : List Process) (store : Store) (m n : Memory) (rest : List 
 
 -- ---- the kernel's call
 
-module _ (s : KernelState) (runs : KernelRuns s) (a : Process) (ia : In s.processes a) (call : MapperCall) (reply : Reply) (is_call : IsCall 4 (machine_call 4 call)) (own : IsOwnCall s.late a (machine_call 4 call))
+module _ (s : KernelState) (runs : KernelRuns s) (a : Process) (ia : In s.processes a) (call : Call) (reply : Reply) (is_call : IsCall 4 call) (own : IsOwnCall s.late a call)
     (n : Memory) (rest : List ℕ)
     (steps : step_by (machine_of (space_of a) s.store.take_back) (state_in (space_of a) s.memory s.store.frames) call ≡ record { state = state_in (space_of a) n rest; reply = Some reply })
-    (free : KeepsFree (space_of a) s.memory s.store.frames (back_by (machine_of (space_of a) s.store.take_back) (state_in (space_of a) s.memory s.store.frames) (machine_call 4 call)) n rest)
-    (beside : LeavesSpaces (space_of a laid_in s.memory) s.store (machine_call 4 call ∷ []) n rest) where
+    (free : KeepsFree (space_of a) s.memory s.store.frames (back_by (machine_of (space_of a) s.store.take_back) (state_in (space_of a) s.memory s.store.frames) call) n rest)
+    (beside : LeavesSpaces (space_of a laid_in s.memory) s.store (call ∷ []) n rest) where
   gives_back : TakesBack s.store.take_back
   gives_back = runs.first.reached.switches.gives
 

@@ -3,7 +3,7 @@ use Rattle.std.proofs.Common.{◌≡◌, ◌≢◌, inl, inr, ⊎_elim, ◌+◌,
 use Rattle.std.proofs.lemmas.Bool.{and_from, cases_eq, le-leb, lt-ltb, not-false}
 use Rattle.x86_64_mappers.specs.Layouts.{direct}
 use Rattle.x86_64_model.specs.Call as machine
-use Rattle.x86_64_model.specs.Call.{Answered, Call}
+use Rattle.x86_64_model.specs.Call.{Answered, Unmap}
 use Rattle.x86_64_model.specs.Entry.{address, has, present}
 use Rattle.x86_64_model.specs.Lists.{In}
 use Rattle.x86_64_model.specs.Machine.{AfterCall, State, after_change, do_call, step}
@@ -21,8 +21,7 @@ use Rattle.x86_64_model.proofs.Lemmas.Machines.Changes.{refused_by, not_refused}
 use Rattle.x86_64_model.proofs.Lemmas.Machines.Effects.{step_cases}
 use Rattle.x86_64_model.proofs.Lemmas.Paths.Puts.{cases_path, entry-put_same, entry-put_other}
 use Rattle.x86_64_tables.proofs.FrameAddresses.{frame_bounds}
-use Rattle.x86_64.specs.Asked.{Of4KiB, Unmap}
-use Rattle.x86_64.specs.Replies.{Reply, reply_of, sized, unmap_error}
+use Rattle.x86_64.specs.Replies.{Reply, reply_of, unmap_error}
 use Rattle.x86_64.specs.declared.call_values.PageReply.TheVariants as page_reply
 use Rattle.x86_64.specs.declared.call_values.MapperReply.TheVariants as replies
 use Rattle.x86_64_tables.specs.declared.errors.UnmapError.{UnmapError}
@@ -49,10 +48,10 @@ unmap_does L M pool q = refused_by P M (first_stop (entry_at None M) q) _ refuse
     refuses : (why : _) → P (record { paths = M; answer = Refused why })
     refuses why = Refuses refl (λ f e. cc)
 
-unmap_is : (root : ℕ) (take_back : List ℕ → ℕ → List ℕ) (s : State) (q : List ℕ) → IsUnmapOf s.paths q (step (machine_of (direct identity_places root) take_back) s (machine.Unmap q))
+unmap_is : (root : ℕ) (take_back : List ℕ → ℕ → List ℕ) (s : State) (p : ℕ) → IsUnmapOf s.paths (path_at 4 1 p) (step (machine_of (direct identity_places root) take_back) s (Unmap 1 p))
 unfolding do_call
-unmap_is root take_back s q = step_cases (machine_of (direct identity_places root) take_back) s (machine.Unmap q) (IsUnmapOf s.paths q)
-    (λ allowed. unmap_does 4 s.paths s.pool q)
+unmap_is root take_back s p = step_cases (machine_of (direct identity_places root) take_back) s (Unmap 1 p) (IsUnmapOf s.paths (path_at 4 1 p))
+    (λ allowed. unmap_does 4 s.paths s.pool (path_at 4 1 p))
     (Refuses refl (λ f e. cc))
 
 -- the entry maps a page in its own frame
@@ -68,7 +67,7 @@ maps_own_frame p e here = record { here = here; page = refl; offset = 0; low = l
 -- ---- the processes
 
 module _ (processes : List Process) (m n : Memory) (a : Process) (ia : In processes a) (p : ℕ) (take_back : List ℕ → ℕ → List ℕ) (pool rest : List ℕ) (reply : Reply)
-    (steps : step_by (machine_of (space_of a) take_back) (state_in (space_of a) m pool) (Of4KiB (Unmap p)) ≡ record { state = state_in (space_of a) n rest; reply = Some reply })
+    (steps : step_by (machine_of (space_of a) take_back) (state_in (space_of a) m pool) (Unmap 1 p) ≡ record { state = state_in (space_of a) n rest; reply = Some reply })
     (stay : OtherSpacesStay (process_spaces processes) (space_of a) m n) where
   abbrev q : List ℕ
   q = path_at 4 1 p
@@ -77,10 +76,10 @@ module _ (processes : List Process) (m n : Memory) (a : Process) (ia : In proces
   M = paths (space_of a laid_in m)
 
   abbrev after : AfterCall
-  after = step (machine_of (space_of a) take_back) (state_in (space_of a) m pool) (machine.Unmap q)
+  after = step (machine_of (space_of a) take_back) (state_in (space_of a) m pool) (Unmap 1 p)
 
   is : IsUnmapOf M q after
-  is = unmap_is a.root take_back (state_in (space_of a) m pool) q
+  is = unmap_is a.root take_back (state_in (space_of a) m pool) p
 
   now : after.state.paths ≡ paths (space_of a laid_in n)
   now = ap (λ (x : AfterStep Reply). x.state.paths) steps
@@ -107,11 +106,11 @@ module _ (processes : List Process) (m n : Memory) (a : Process) (ia : In proces
       (cases_eq a.root b.root)
 
   -- the reply's frame is that of the machine's
-  told_frame : (r : machine.Reply) (f : ℕ) → option_and_then unmapped_frame (reply_of (Of4KiB (Unmap p)) r) ≡ Some f → r ≡ Answered (Done f)
+  told_frame : (r : machine.Reply) (f : ℕ) → option_and_then unmapped_frame (reply_of (Unmap 1 p) r) ≡ Some f → r ≡ Answered (Done f)
   told_frame (machine.Answered (Done g)) f e = let same : g ≡ f = cc in ap (λ g. Answered (Done g)) same
   told_frame (machine.Answered (Refused why)) f e = by (unmap_error why) e
     where
-      by : (o : Option UnmapError) → option_and_then unmapped_frame (option_map (sized replies.Of4KiB) (option_map Some (option_map page_reply.Unmap (option_map Err o)))) ≡ Some f
+      by : (o : Option UnmapError) → option_and_then unmapped_frame (option_map replies.Of4KiB (option_map (λ error. page_reply.Unmap (Err error)) o)) ≡ Some f
           → Answered (Refused why) ≡ Answered (Done f)
       by None e = let no : None ≡ Some f = e in cc
       by (Some x) e = let no : None ≡ Some f = e in cc

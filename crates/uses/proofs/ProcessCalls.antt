@@ -3,7 +3,7 @@ use Rattle.std.proofs.Common.{◌≡◌, ◌≢◌, inl, inr, zero, suc, ◌<◌
 use Rattle.std.proofs.lemmas.Bool.{and_parts, leb-true, lt-leb}
 use Rattle.std.proofs.lemmas.List.{append-nil}
 use Rattle.std.specs.Prelude.{if◌then◌else◌}
-use Rattle.x86_64_model.specs.Call.{Call, Unmap, CleanUp}
+use Rattle.x86_64_model.specs.Call.{Call, CleanUp}
 use Rattle.x86_64_model.specs.Laws.Spaces.{IsNewRoot, Led}
 use Rattle.x86_64_model.specs.Layout.{Layout}
 use Rattle.x86_64_model.specs.Lists.{In}
@@ -25,14 +25,13 @@ use Rattle.x86_64_mappers.specs.Layouts.{direct}
 use Rattle.x86_64_spaces.specs.declared.giving_up.GiveUpError.{GiveUpError}
 use Rattle.x86_64_spaces.specs.declared.giving_up.GiveUpError.TheVariants.{EntryUsed, FrameZero}
 use Rattle.x86_64_spaces.specs.SpaceCalls.{IsGivenUp, IsReason}
-use Rattle.x86_64.specs.Asked.{MapperCall, machine_call}
 use Rattle.x86_64.specs.Pairs.{put_first}
 use Rattle.x86_64.specs.Replies.{Reply}
 use Rattle.x86_64.specs.Runs.{AfterStep, step_by}
 use Rattle.x86_64.proofs.EmptyRoots.{alike}
 use Rattle.x86_64.proofs.Keeping.{keeps_nothing, keeps_then}
 use Rattle.uses.specs.SpacesBeside.{LeavesSpaces}
-use Rattle.uses.specs.Processes.{is_kernels, if_own, unmap_calls, lower_clean_up, ProcessIsStarted, IsServed, IsUsed, IsEnded}
+use Rattle.uses.specs.Processes.{is_kernels, if_own, own_unmap, unmap_calls, lower_clean_up, ProcessIsStarted, IsServed, IsUsed, IsEnded}
 
 -- ---- the records of a layout, memories and lists of frames
 
@@ -80,11 +79,11 @@ pub none_so_far : (process : Layout) (pages : List ℕ) (serves : ℕ → Bool) 
 none_so_far process pages serves m pool fits = record { done = []; all = refl; served = served_nothing process serves m pool fits }
 
 pub one_more : (process : Layout) (pages left rest_of : List ℕ) (page : ℕ) (serves : ℕ → Bool) (m n o : Memory) (pool rest last : List ℕ) → left ≡ page ∷ rest_of → SoFar process pages left serves m pool n rest
-    → Served process (if_own page (Unmap (path_at 4 1 page))) serves n rest o last → SoFar process pages rest_of serves m pool o last
+    → Served process (own_unmap page) serves n rest o last → SoFar process pages rest_of serves m pool o last
 one_more process pages left rest_of page serves m n o pool rest last is one next = record {
-  done = one.done ++ if_own page (Unmap (path_at 4 1 page));
-  all = append_assoc one.done (if_own page (Unmap (path_at 4 1 page))) (unmap_calls rest_of) ∙ ap (λ left. one.done ++ unmap_calls left) (sym is) ∙ one.all;
-  served = served_then process serves m n o pool rest last one.done (if_own page (Unmap (path_at 4 1 page))) one.served next;
+  done = one.done ++ own_unmap page;
+  all = append_assoc one.done (own_unmap page) (unmap_calls rest_of) ∙ ap (λ left. one.done ++ unmap_calls left) (sym is) ∙ one.all;
+  served = served_then process serves m n o pool rest last one.done (own_unmap page) one.served next;
 }
 
 pub then_cleaned : (process : Layout) (pages left : List ℕ) (serves : ℕ → Bool) (m n o : Memory) (pool rest last : List ℕ) → left ≡ [] → SoFar process pages left serves m pool n rest
@@ -101,9 +100,9 @@ pub served_by : (root : ℕ) (serves : ℕ → Bool) (call : Call) (m n : Memory
     → Served (direct identity_places root) (call ∷ []) serves m pool n rest
 served_by root serves call m n pool rest state keeps leaves avoids = record { state = state; keeps = keeps; others = λ spaces member are. leaves.users is_kernels spaces member are (avoids, tt) }
 
-pub step_led : (root : ℕ) (call : MapperCall) (reply : Reply) (m n : Memory) (pool rest : List ℕ)
+pub step_led : (root : ℕ) (call : Call) (reply : Reply) (m n : Memory) (pool rest : List ℕ)
     → step_by (machine_of (direct identity_places root) put_first) (state_in (direct identity_places root) m pool) call ≡ record { state = state_in (direct identity_places root) n rest; reply = Some reply }
-    → Led (direct identity_places root) put_first m pool (machine_call 4 call ∷ []) n rest
+    → Led (direct identity_places root) put_first m pool (call ∷ []) n rest
 step_led root call reply m n pool rest step = sym (ap (λ (x : AfterStep Reply). x.state) step)
 
 first_is_shared : (shared : ℕ → Bool) (L level p : ℕ) → 3 < L → level ≤ 3 → is_shared shared (path_at L level p) ≡ shared (index L p)

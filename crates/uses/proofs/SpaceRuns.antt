@@ -1,5 +1,5 @@
 -- What an owner of a memory learns of calls on one of several address spaces in it.
-use Rattle.std.proofs.Common.{◌≡◌, ◌⊎◌, inl, inr, ⊎_elim, ◌<◌, ℕ, Bool, true, false, List, [], ◌∷◌, Result, Ok, Err, OnOk, OnErr, Some, refl, sym, ap, ◌∙◌, subst, arith}
+use Rattle.std.proofs.Common.{◌≡◌, ◌⊎◌, inl, inr, ⊎_elim, ◌<◌, ℕ, Bool, true, false, List, [], ◌∷◌, map, Result, Ok, Err, OnOk, OnErr, Some, refl, sym, ap, ◌∙◌, subst, arith}
 use Rattle.x86_64_model.specs.Call.{Call, IsCall}
 use Rattle.x86_64_model.specs.Entry.{IsParentFlags, address}
 use Rattle.x86_64_model.specs.Laws.Spaces.{KeepsBelow, Led, CallsKeepBelow, CallsKeepRootEntries, SharedHalvesStay, SpacesStay}
@@ -13,7 +13,6 @@ use Rattle.x86_64_model.specs.Pool.{TakesBack}
 use Rattle.x86_64_model.specs.Spaces.{is_shared, AreSpaces}
 use Rattle.x86_64_model.specs.Store.{Store, KeepsPool}
 use Rattle.x86_64_mappers.specs.Layouts.{direct_at}
-use Rattle.x86_64.specs.Asked.{MapperCall, machine_call, calls_by}
 use Rattle.x86_64.specs.Replies.{Reply}
 use Rattle.x86_64.specs.Runs.{AfterStep, machine_of, state_in, step_by, Ran}
 use Rattle.uses.specs.SpacesBeside.{OtherSpacesStay, LeavesSpaces}
@@ -73,20 +72,20 @@ module _ (stay : SpacesStay) (halves : SharedHalvesStay) (below : CallsKeepBelow
     owner_keeps : layout ≡ one → before ≡ m → after ≡ n → KeepsPool one serves m pool n rest
     owner_keeps same was now = owners layout one before after m n same was now (λ l m n. KeepsPool l serves m pool n rest) keeps
 
-    pub after_call : (call : MapperCall) → IsCall levels (machine_call levels call) → (reply : Reply)
+    pub after_call : (call : Call) → IsCall levels call → (reply : Reply)
         → step_by (machine_of layout take_back) (state_in layout before pool) call ≡ record { state = state_in layout after rest; reply = Some reply }
-        → layout ≡ one → before ≡ m → after ≡ n → LeavesSpaces space store (machine_call levels call ∷ []) n rest
-    after_call call is_call reply step same was now = leaves_spaces (machine_call levels call ∷ []) (is_call, tt) (owner_keeps same was now)
-        (inl (owners layout one before after m n same was now (λ l m n. Led l take_back m pool (machine_call l.levels call ∷ []) n rest) (sym (ap (λ (x : AfterStep Reply). x.state) step))))
+        → layout ≡ one → before ≡ m → after ≡ n → LeavesSpaces space store (call ∷ []) n rest
+    after_call call is_call reply step same was now = leaves_spaces (call ∷ []) (is_call, tt) (owner_keeps same was now)
+        (inl (owners layout one before after m n same was now (λ l m n. Led l take_back m pool (call ∷ []) n rest) (sym (ap (λ (x : AfterStep Reply). x.state) step))))
 
   -- the list was executed, or memory was refused and nothing changed
   module _ {Lent : Type 0} (h after : Hierarchy Lent) (keeps : KeepsPool h.layout serves h.memory pool after.memory rest) where
-    pub after_calls : {C X E Q : Type 0} (asks : C → MapperCall) (calls : List C) → AllCalls levels (calls_by asks levels calls) → (before now : List Reply)
+    pub after_calls : {C X E Q : Type 0} (asks : C → Call) (calls : List C) → AllCalls levels (map asks calls) → (before now : List Reply)
         → (r : Result X E) → OnOk r (Ran asks h store calls before now after rest) → OnErr r Q → (Q → after.memory ≡ h.memory)
-        → h.layout ≡ one → h.memory ≡ m → after.memory ≡ n → LeavesSpaces space store (calls_by asks levels calls) n rest
+        → h.layout ≡ one → h.memory ≡ m → after.memory ≡ n → LeavesSpaces space store (map asks calls) n rest
     after_calls {X = X} {E = E} {Q = Q} asks calls are_calls was now r ran refused unchanged same before end =
-        leaves_spaces (calls_by asks levels calls) are_calls (owner_keeps h.layout h.memory after.memory keeps same before end) (by r ran refused)
+        leaves_spaces (map asks calls) are_calls (owner_keeps h.layout h.memory after.memory keeps same before end) (by r ran refused)
       where
-        by : (r : Result X E) → OnOk r (Ran asks h store calls was now after rest) → OnErr r Q → Led one take_back m pool (calls_by asks levels calls) n rest ⊎ (n ≡ m)
-        by (Ok x) ran refused = inl (owners h.layout one h.memory after.memory m n same before end (λ l m n. Led l take_back m pool (calls_by asks l.levels calls) n rest) ran.state)
+        by : (r : Result X E) → OnOk r (Ran asks h store calls was now after rest) → OnErr r Q → Led one take_back m pool (map asks calls) n rest ⊎ (n ≡ m)
+        by (Ok x) ran refused = inl (owners h.layout one h.memory after.memory m n same before end (λ l m n. Led l take_back m pool (map asks calls) n rest) ran.state)
         by (Err e) ran refused = inr (sym end ∙ unchanged refused ∙ before)

@@ -6,7 +6,6 @@ use Rattle.x86_64_model.specs.Layout.{Layout}
 use Rattle.x86_64_model.specs.Lists.{In}
 use Rattle.x86_64_model.specs.Hierarchy.{◌laid_in◌, Hierarchy, Owns, paths}
 use Rattle.x86_64_model.specs.Memory.{Memory}
-use Rattle.x86_64_model.specs.Path.{path_at}
 use Rattle.x86_64_model.specs.Position.{index}
 use Rattle.x86_64_model.specs.Spaces.{AreSpaces}
 use Rattle.x86_64_model.specs.Store.{Store, KeepsPool}
@@ -48,11 +47,11 @@ if_own page call = if is_kernels (index 4 page) then [] else call ∷ []
 
 -- The call that maps a page to a frame, if that isn't in the kernel's half.
 abbrev pub own_map : (page frame flags : ℕ) → List Call
-own_map page frame given = if_own page (MapTo (path_at 4 1 page) frame given)
+own_map page frame given = if_own page (MapTo 1 page frame given)
 
 -- The call that unmaps a page, if that isn't in the kernel's half.
 abbrev pub own_unmap : (page : ℕ) → List Call
-own_unmap page = if_own page (Unmap (path_at 4 1 page))
+own_unmap page = if_own page (Unmap 1 page)
 
 -- The calls that unmap all pages but those in the kernel's half.
 abbrev pub unmap_calls : (pages : List ℕ) → List Call

@@ -1,9 +1,8 @@
 //! Maps a page, by any mapper.
 ghost use Rattle.std.specs.Prelude.{◌≡◌, false, IfOk};
 ghost use Rattle.uses.specs.PageMaps.{MappedArrives, MapsIfAllowed};
-ghost use Rattle.x86_64_mappers.specs.PageAnswers.{allows_call};
-ghost use Rattle.x86_64_model.specs.Hierarchy.{SupplyFits};
-ghost use Rattle.x86_64_model.specs.PageCalls.{MapTo};
+ghost use Rattle.x86_64_model.specs.Call.{MapTo};
+ghost use Rattle.x86_64_model.specs.Hierarchy.{SupplyFits, allows};
 ghost use Rattle.x86_64_tables.specs.MapperAnswers.{map_answer};
 ghost use Rattle.x86_64_tables.specs.PageTableFlags.{bits_of};
 
@@ -22,8 +21,8 @@ pub fn map_page<M: Mapper<Size4KiB>>(
     requires { SupplyFits (M.hierarchy mapper.old) pool.old.frames }
     ensures fits { SupplyFits (M.hierarchy mapper.new) pool.new.frames }
     ensures allowed { IfOk result (λ mapped. mapped
-        ≡ allows_call (M.hierarchy mapper.old) 1 (MapTo page frame (bits_of flags))) }
-    ensures does { MapsIfAllowed (M.hierarchy mapper.old) pool.old.frames (MapTo page frame (bits_of flags))
+        ≡ allows (M.hierarchy mapper.old) (MapTo 1 page frame (bits_of flags))) }
+    ensures does { MapsIfAllowed (M.hierarchy mapper.old) pool.old.frames (MapTo 1 page frame (bits_of flags))
         (map_answer frame result) (M.hierarchy mapper.new) pool.new.frames }
     ensures kept { result ≡ Ok false → (mapper.new ≡ mapper.old) × (pool.new ≡ pool.old) }
     ensures arrives { MappedArrives result (M.hierarchy mapper.new) page frame (bits_of flags) }

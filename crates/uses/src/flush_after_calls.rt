@@ -84,8 +84,8 @@ pub fn call_and_flush<
     C: Processor,
 >(mapper: &mut M, frames: &mut F, processor: &mut C, call: CallIn<L, P5>) -> ReplyIn<L>
     requires { InUse (M.hierarchy mapper.old) (store_of F.FrameStore frames.old) (C.cached processor.old) }
-    ensures step { Stepped (M.hierarchy mapper.old) (store_of F.FrameStore frames.old) (to_call P5.bits call)
-        result (M.hierarchy mapper.new) (F.supply frames.new) }
+    ensures step { Stepped (M.hierarchy mapper.old) (store_of F.FrameStore frames.old)
+        (to_call L.LEVELS P5.bits call) result (M.hierarchy mapper.new) (F.supply frames.new) }
     ensures keeps { Keeps (M.hierarchy mapper.old) (store_of F.FrameStore frames.old)
         (M.hierarchy mapper.new) (store_of F.FrameStore frames.new) }
     ensures again { InUse (M.hierarchy mapper.new) (store_of F.FrameStore frames.new)
@@ -109,8 +109,8 @@ pub fn calls_and_flushes<
     C: Processor,
 >(mapper: &mut M, frames: &mut F, processor: &mut C, calls: &[CallIn<L, P5>])
     requires { InUse (M.hierarchy mapper.old) (store_of F.FrameStore frames.old) (C.cached processor.old) }
-    ensures state { LedBy (to_call P5.bits) (M.hierarchy mapper.old) (store_of F.FrameStore frames.old)
-        calls.now (M.hierarchy mapper.new) (F.supply frames.new) }
+    ensures state { LedBy (to_call L.LEVELS P5.bits) (M.hierarchy mapper.old)
+        (store_of F.FrameStore frames.old) calls.now (M.hierarchy mapper.new) (F.supply frames.new) }
     ensures again { InUse (M.hierarchy mapper.new) (store_of F.FrameStore frames.new)
         (C.cached processor.new) }
     ensures accesses { AccessesGoIn (M.hierarchy mapper.new) (C.cached processor.new) }

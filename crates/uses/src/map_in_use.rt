@@ -2,9 +2,8 @@
 ghost use Rattle.std.specs.Prelude.{◌≡◌, ◌≢◌, true, IfOk, Ok};
 ghost use Rattle.uses.specs.Owned.{hierarchy};
 ghost use Rattle.uses.specs.PageMaps.{MapsByFlags};
-ghost use Rattle.x86_64_mappers.specs.PageAnswers.{allows_call};
-ghost use Rattle.x86_64_model.specs.Hierarchy.{SupplyFits};
-ghost use Rattle.x86_64_model.specs.PageCalls.{MapTo};
+ghost use Rattle.x86_64_model.specs.Call.{MapTo};
+ghost use Rattle.x86_64_model.specs.Hierarchy.{SupplyFits, allows};
 ghost use Rattle.x86_64_tables.specs.PageTableFlags.{bits_of};
 
 use x86_64::structures::paging::mapper::MapToError;
@@ -25,7 +24,7 @@ pub fn map_in_use<T: TableMemory>(
     requires { SupplyFits (hierarchy root (T.tables memory.old)) pool.old.frames }
     ensures fits { SupplyFits (hierarchy root (T.tables memory.new)) pool.new.frames }
     ensures allowed { IfOk result (λ mapped. mapped
-        ≡ allows_call (hierarchy root (T.tables memory.old)) 1 (MapTo page frame (bits_of flags))) }
+        ≡ allows (hierarchy root (T.tables memory.old)) (MapTo 1 page frame (bits_of flags))) }
     ensures maps { result ≡ Ok true → MapsByFlags (hierarchy root (T.tables memory.old)) pool.old.frames
         page frame (bits_of flags) (hierarchy root (T.tables memory.new)) pool.new.frames }
     ensures kept { result ≢ Ok true → (T.tables memory.new ≡ T.tables memory.old) × (pool.new ≡ pool.old) }

@@ -2,9 +2,8 @@
 ghost use Rattle.std.specs.Prelude.{◌≡◌, ◌↔◌, false, IfOk, IsTrue};
 ghost use Rattle.uses.specs.Owned.{hierarchy};
 ghost use Rattle.uses.specs.PageMaps.{MappedArrives, StepsIfAllowed};
-ghost use Rattle.x86_64_mappers.specs.PageAnswers.{allows_call};
-ghost use Rattle.x86_64_model.specs.Hierarchy.{SupplyFits};
-ghost use Rattle.x86_64_model.specs.PageCalls.{MapTo};
+ghost use Rattle.x86_64_model.specs.Call.{MapTo};
+ghost use Rattle.x86_64_model.specs.Hierarchy.{SupplyFits, allows};
 ghost use Rattle.x86_64_model.specs.Store.{StoreFits};
 ghost use Rattle.x86_64_tables.specs.LentMemory.{numbered};
 ghost use Rattle.x86_64_tables.specs.MapperAnswers.{map_answer};
@@ -30,9 +29,9 @@ pub fn map_in<T: TableMemory>(
     requires { SupplyFits (hierarchy root (T.tables memory.old)) pool.old.frames }
     ensures fits { SupplyFits (hierarchy root (T.tables memory.new)) pool.new.frames }
     ensures allowed { IfOk result (λ mapped. mapped
-        ≡ allows_call (hierarchy root (T.tables memory.old)) 1 (MapTo page frame (bits_of flags))) }
+        ≡ allows (hierarchy root (T.tables memory.old)) (MapTo 1 page frame (bits_of flags))) }
     ensures does { StepsIfAllowed (hierarchy root (T.tables memory.old)) pool.old.frames
-        (MapTo page frame (bits_of flags)) (map_answer frame result)
+        (MapTo 1 page frame (bits_of flags)) (map_answer frame result)
         (hierarchy root (T.tables memory.new)) pool.new.frames }
     ensures kept { result ≡ Ok false → (T.tables memory.new ≡ T.tables memory.old) × (pool.new ≡ pool.old) }
     ensures arrives { MappedArrives result (hierarchy root (T.tables memory.new)) page frame (bits_of flags) }
@@ -75,9 +74,9 @@ pub fn map_in_slice(
     requires { SupplyFits (hierarchy root (numbered tables.old)) pool.old.frames }
     ensures fits { SupplyFits (hierarchy root (numbered tables.new)) pool.new.frames }
     ensures allowed { IfOk result (λ mapped. mapped
-        ≡ allows_call (hierarchy root (numbered tables.old)) 1 (MapTo page frame (bits_of flags))) }
+        ≡ allows (hierarchy root (numbered tables.old)) (MapTo 1 page frame (bits_of flags))) }
     ensures does { StepsIfAllowed (hierarchy root (numbered tables.old)) pool.old.frames
-        (MapTo page frame (bits_of flags)) (map_answer frame result)
+        (MapTo 1 page frame (bits_of flags)) (map_answer frame result)
         (hierarchy root (numbered tables.new)) pool.new.frames }
     ensures kept { result ≡ Ok false → (tables.new ≡ tables.old) × (pool.new ≡ pool.old) }
     ensures arrives { MappedArrives result (hierarchy root (numbered tables.new)) page frame (bits_of flags) }

@@ -1,9 +1,8 @@
 //! Calls of the Rust crate, as they are written here.
 ghost use Rattle.std.specs.Prelude.{◌≡◌, ◌↔◌, ◌<◌, ◌++◌, [], ◌∷◌, true, false, None, IfErr, IfOk, IfSome, IsSome, IsTrue};
 ghost use Rattle.uses.specs.PageMaps.{MapsIfAllowed};
-ghost use Rattle.x86_64_mappers.specs.PageAnswers.{allows_call};
-ghost use Rattle.x86_64_model.specs.Hierarchy.{CleansUp, MayCleanUp, SupplyFits, Valid, translation};
-ghost use Rattle.x86_64_model.specs.PageCalls.{Answers, MapTo, Unmap};
+ghost use Rattle.x86_64_model.specs.Call.{MapTo, Unmap};
+ghost use Rattle.x86_64_model.specs.Hierarchy.{CleansUp, Does, MayCleanUp, SupplyFits, Valid, allows, translation};
 ghost use Rattle.x86_64_model.specs.Refusal.{Done, Refused};
 ghost use Rattle.x86_64_model.specs.Translation.{address_of};
 ghost use Rattle.x86_64_tables.specs.FlushRecorder.{page_item};
@@ -27,9 +26,9 @@ pub fn map<M: Mapper<Size4KiB>, A: FrameAllocator<Size4KiB>>(
 ) -> Result<bool, MapToError<Size4KiB>>
     requires { SupplyFits (M.hierarchy mapper.old) (A.supply frames.old) }
     ensures allowed { IfOk result (λ mapped. mapped
-        ≡ allows_call (M.hierarchy mapper.old) 1 (MapTo page frame (bits_of flags))) }
+        ≡ allows (M.hierarchy mapper.old) (MapTo 1 page frame (bits_of flags))) }
     ensures does { MapsIfAllowed (M.hierarchy mapper.old) (A.supply frames.old)
-        (MapTo page frame (bits_of flags)) (map_answer frame result)
+        (MapTo 1 page frame (bits_of flags)) (map_answer frame result)
         (M.hierarchy mapper.new) (A.supply frames.new) }
     ensures kept { result ≡ Ok false
         → (mapper.new ≡ mapper.old) × (frames.new ≡ frames.old) × (recorder.new ≡ recorder.old) }
@@ -53,10 +52,10 @@ pub fn unmap<M: Mapper<Size4KiB>>(
 ) -> Result<Option<PhysFrame<Size4KiB>>, UnmapError>
     requires { Valid (M.hierarchy mapper.old) }
     ensures allowed { IfOk result (λ frame. IsSome frame
-        ↔ (allows_call (M.hierarchy mapper.old) 1 (Unmap page) ≡ true)) }
-    ensures unmapped { IfOk result (λ some. IfSome some (λ frame. Answers (M.hierarchy mapper.old) 1
-        (Unmap page) (Done frame) (M.hierarchy mapper.new))) }
-    ensures refused { IfErr result (λ why. Answers (M.hierarchy mapper.old) 1 (Unmap page)
+        ↔ (allows (M.hierarchy mapper.old) (Unmap 1 page) ≡ true)) }
+    ensures unmapped { IfOk result (λ some. IfSome some (λ frame. Does (M.hierarchy mapper.old)
+        (Unmap 1 page) (Done frame) (M.hierarchy mapper.new))) }
+    ensures refused { IfErr result (λ why. Does (M.hierarchy mapper.old) (Unmap 1 page)
         (Refused (refusal_of_unmap why)) (M.hierarchy mapper.new)) }
     ensures kept { result ≡ Ok None → mapper.new ≡ mapper.old }
 {

@@ -3,12 +3,11 @@
 ghost use Rattle.std.specs.Prelude.{◌≡◌, [], ◌∷◌, true, false, IfNone, IfSome, OnErr, OnOk};
 ghost use Rattle.uses.specs.Owned.{hierarchy};
 ghost use Rattle.uses.specs.Processes.{is_kernels, ending, lower_clean_up, own_map, own_unmap, GoesOn, IsEnded, IsServed, ProcessIsStarted};
-ghost use Rattle.x86_64_model.specs.PageCalls.{MapTo};
+ghost use Rattle.x86_64_model.specs.Call.{MapTo};
 ghost use Rattle.x86_64_model.specs.Pool.{serves_below};
 ghost use Rattle.x86_64_model.specs.Position.{index};
 ghost use Rattle.x86_64_model.specs.Store.{StoreFits};
 ghost use Rattle.x86_64_tables.specs.PageTableFlags.{bits_of};
-ghost use Rattle.x86_64.specs.Asked.{Of4KiB};
 ghost use Rattle.x86_64.specs.declared.call_values.MapperReply.TheVariants.{NotAllowed};
 ghost use Rattle.x86_64.specs.Runs.{Stepped};
 ghost use Rattle.x86_64.specs.Pairs.{pool_store};
@@ -60,7 +59,7 @@ pub fn map_in<T: TableMemory>(
     ensures served { IsServed (hierarchy process (T.tables memory.old)) (pool_store pool.old)
         (own_map page frame (bits_of flags)) (hierarchy process (T.tables memory.new)) pool.new.frames }
     ensures reply { is_kernels (index 4 page) ≡ false → Stepped (hierarchy process (T.tables memory.old))
-        (pool_store pool.old) (Of4KiB (MapTo page frame (bits_of flags))) result
+        (pool_store pool.old) (MapTo 1 page frame (bits_of flags)) result
         (hierarchy process (T.tables memory.new)) pool.new.frames }
     ensures refused { is_kernels (index 4 page) ≡ true
         → (result ≡ NotAllowed) × (memory.new ≡ memory.old) × (pool.new ≡ pool.old) }

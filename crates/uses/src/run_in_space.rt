@@ -1,10 +1,9 @@
 //! Runs a list of calls on one of several address spaces: hierarchies in one memory, with one pool, whose roots have the
 //! same entries at some indices of the highest level, and so the same tables below these.
-ghost use Rattle.std.specs.Prelude.{◌≡◌, [], ◌∷◌, OnErr, OnOk};
+ghost use Rattle.std.specs.Prelude.{◌≡◌, [], ◌∷◌, map, OnErr, OnOk};
 ghost use Rattle.uses.specs.Owned.{hierarchy_at};
 ghost use Rattle.uses.specs.SpacesBeside.{LeavesSpaces};
 ghost use Rattle.x86_64_model.specs.Store.{StoreFits, store_of};
-ghost use Rattle.x86_64.specs.Asked.{calls_by, machine_call};
 ghost use Rattle.x86_64.specs.Calls.{to_call};
 ghost use Rattle.x86_64.specs.Runs.{LeavesFree, Ran, Stepped};
 
@@ -44,11 +43,11 @@ pub fn run_on<
     requires { StoreFits (hierarchy_at L.LEVELS (P.places mapping) root (T.tables memory.old))
         (store_of F.FrameStore frames.old) }
     ensures ran { let h = hierarchy_at L.LEVELS (P.places mapping) root in OnOk result (
-        Ran (to_call P5.bits) (h (T.tables memory.old)) (store_of F.FrameStore frames.old) calls.now
+        Ran (to_call L.LEVELS P5.bits) (h (T.tables memory.old)) (store_of F.FrameStore frames.old) calls.now
         replies.old.items replies.new.items (h (T.tables memory.new)) (F.supply frames.new)) }
     ensures refused { OnErr result ((T.tables memory.new ≡ T.tables memory.old) × (frames.new ≡ frames.old)) }
     ensures beside { LeavesSpaces (hierarchy_at L.LEVELS (P.places mapping) root (T.tables memory.old))
-        (store_of F.FrameStore frames.old) (calls_by (to_call P5.bits) L.LEVELS calls.now)
+        (store_of F.FrameStore frames.old) (map (to_call L.LEVELS P5.bits) calls.now)
         (T.tables memory.new) (F.supply frames.new) }
     ensures same { (T.lent memory.new ≡ T.lent memory.old) × (F.serves frames.new ≡ F.serves frames.old) }
 {
@@ -79,13 +78,13 @@ pub fn call_on<
     requires { StoreFits (hierarchy_at L.LEVELS (P.places mapping) root (T.tables memory.old))
         (store_of F.FrameStore frames.old) }
     ensures step { let h = hierarchy_at L.LEVELS (P.places mapping) root in
-        Stepped (h (T.tables memory.old)) (store_of F.FrameStore frames.old) (to_call P5.bits call) result
-        (h (T.tables memory.new)) (F.supply frames.new) }
+        Stepped (h (T.tables memory.old)) (store_of F.FrameStore frames.old) (to_call L.LEVELS P5.bits call)
+        result (h (T.tables memory.new)) (F.supply frames.new) }
     ensures free { let h = hierarchy_at L.LEVELS (P.places mapping) root in
-        LeavesFree (h (T.tables memory.old)) (store_of F.FrameStore frames.old) (to_call P5.bits call)
-        (h (T.tables memory.new)) (F.supply frames.new) }
+        LeavesFree (h (T.tables memory.old)) (store_of F.FrameStore frames.old)
+        (to_call L.LEVELS P5.bits call) (h (T.tables memory.new)) (F.supply frames.new) }
     ensures beside { LeavesSpaces (hierarchy_at L.LEVELS (P.places mapping) root (T.tables memory.old))
-        (store_of F.FrameStore frames.old) (machine_call L.LEVELS (to_call P5.bits call) ∷ [])
+        (store_of F.FrameStore frames.old) (to_call L.LEVELS P5.bits call ∷ [])
         (T.tables memory.new) (F.supply frames.new) }
     ensures same { (T.lent memory.new ≡ T.lent memory.old) × (F.serves frames.new ≡ F.serves frames.old) }
 {

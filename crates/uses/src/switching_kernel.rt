@@ -5,7 +5,6 @@ ghost use Rattle.uses.specs.Owned.{hierarchy};
 ghost use Rattle.uses.specs.SpacesBeside.{OtherSpacesStay};
 ghost use Rattle.uses.specs.SwitchingKernel.{ProcessorState, AreProcesses, BeginsWith, LoadsCr3, FlushesPcid, CachesChange, kernel_state, process_spaces, space_of, unmapped_frame, IsMappedOnce, IsOwnCall, FrameIsUnmapped, IsUnreached, LessIsMapped, KernelRuns, SwitchesTo, UnmappedIsUnreached};
 ghost use Rattle.x86_64_model.specs.Lists.{In};
-ghost use Rattle.x86_64.specs.Asked.{machine_call};
 ghost use Rattle.x86_64.specs.Calls.{to_call, no_bits};
 ghost use Rattle.x86_64.specs.Pairs.{pool_store};
 ghost use Rattle.x86_64.specs.Runs.{Stepped};
@@ -221,10 +220,10 @@ impl<T: TableMemory, C: SwitchingProcessor> Kernel<T, C> {
     fn call(&mut self, process: &Process, call: Call) -> Reply
         requires runs { KernelRuns (kernel_state T.tables C.state self.old) }
         requires process { In self.old.processes.items process.now }
-        requires own { IsOwnCall self.old.late process.now (machine_call 4 (to_call no_bits call)) }
+        requires own { IsOwnCall self.old.late process.now (to_call 4 no_bits call) }
         ensures runs { KernelRuns (kernel_state T.tables C.state self.new) }
         ensures step { let h = hierarchy process.now.root in
-            Stepped (h (T.tables self.old.memory)) (pool_store self.old.pool) (to_call no_bits call) result
+            Stepped (h (T.tables self.old.memory)) (pool_store self.old.pool) (to_call 4 no_bits call) result
             (h (T.tables self.new.memory)) self.new.pool.frames }
         ensures others { OtherSpacesStay (process_spaces self.old.processes.items) (space_of process.now)
             (T.tables self.old.memory) (T.tables self.new.memory) }

@@ -4,7 +4,7 @@ use Rattle.std.proofs.Math.Nat.{add-mul-mod_self_right}
 use Rattle.std.proofs.lemmas.Bool.{ltb-true}
 use Rattle.std.specs.List.{AllByRecursion, range_with_len}
 use Rattle.x86_64_model.specs.Call.{MapTo}
-use Rattle.x86_64_model.specs.Hierarchy.{Hierarchy, allows, path_of}
+use Rattle.x86_64_model.specs.Hierarchy.{Hierarchy, allows}
 use Rattle.x86_64_model.specs.PageMappings.{PageMapping, AreApart, EachApart}
 use Rattle.x86_64_model.specs.Position.{span}
 use Rattle.x86_64_model.proofs.Lemmas.Lists.All.{all_mapped}
@@ -79,7 +79,7 @@ pub record IsPageOf {Lent : Type 0} (h : Hierarchy Lent) (s : Segment) (x : Page
   pub multiple : x.page % span x.level ≡ 0
   pub below : x.page < 2 ^ 48
   pub given : x.flags ≡ bits_of s.flags
-  pub allowed : allows h (MapTo (path_of h x.level x.page) x.frame x.flags) ≡ true
+  pub allowed : allows h (MapTo x.level x.page x.frame x.flags) ≡ true
 
 -- at the first page of 2MiB, page and frame start at a multiple of 2MiB
 large_aligned : (s : Segment) → s.page % 0x1000 ≡ 0 → 0 < count_large s → (s.page + count_before s * 0x1000) % 0x20_0000 ≡ 0

@@ -9,15 +9,14 @@ use Rattle.x86_64_model.proofs.Lemmas.Machines.Owners.{map_allows, map_leads}
 use Rattle.x86_64_model.specs.Machine.{AfterCall, State, only_reply, do_call, step, replies_of, state_after}
 use Rattle.x86_64_model.specs.MapRule.{parent_part}
 use Rattle.x86_64_model.specs.Memory.{IsMapping}
-use Rattle.x86_64_model.specs.Hierarchy.{Hierarchy, DoesMap, MayMap, PoolFits, machine_of, state_of, path_of}
+use Rattle.x86_64_model.specs.Hierarchy.{Hierarchy, DoesMap, MayMap, PoolFits, machine_of, state_of}
 use Rattle.x86_64_model.specs.PageMappings.{PageMapping, accepted, map_calls, map_call_of}
 use Rattle.x86_64_model.specs.Pool.{TakesBack}
 use Rattle.x86_64_model.specs.Refusal.{Answer, Refusal, Refused}
 use Rattle.x86_64_model.proofs.Lemmas.Runs.Runs.{replies_append, state_append}
 use Rattle.x86_64_tables.specs.MapperAnswers.{map_answer}
 use Rattle.x86_64_tables.specs.declared.errors.MapToError.{MapToError}
-use Rattle.x86_64_mappers.specs.Supplies.{Supply, DoesMapFrom}
-use Rattle.x86_64.specs.Asked as asked
+use Rattle.x86_64_mappers.specs.Supplies.{Supply, MapsFrom}
 use Rattle.x86_64.specs.Pairs.{put_first}
 use Rattle.x86_64.specs.declared.call_values.PageReply.TheVariants as reply
 use Rattle.x86_64.proofs.FreeFrames.{nothing_keeps_free}
@@ -42,16 +41,16 @@ module _ {Lent : Type 0} (h now after : Hierarchy Lent) (supply between rest : L
   made_then answers others one two = record {
     replies = λ take_back.
         let m = machine_of h.layout take_back in
-        ap (replies_of m (state_of h supply)) (map-append (map_call_of h.layout.levels) xs ys)
-        ∙ replies_append m (state_of h supply) (map_calls h.layout.levels xs) (map_calls h.layout.levels ys)
-        ∙ ap₂ (λ rs (s : State). rs ++ replies_of m s (map_calls h.layout.levels ys)) (one.replies take_back) (one.state take_back)
-        ∙ ap (λ rs. answers ++ rs) (subst (λ (l : Layout). replies_of (machine_of l take_back) (state_of now between) (map_calls l.levels ys) ≡ others) same (two.replies take_back));
+        ap (replies_of m (state_of h supply)) (map-append map_call_of xs ys)
+        ∙ replies_append m (state_of h supply) (map_calls xs) (map_calls ys)
+        ∙ ap₂ (λ rs (s : State). rs ++ replies_of m s (map_calls ys)) (one.replies take_back) (one.state take_back)
+        ∙ ap (λ rs. answers ++ rs) (subst (λ (l : Layout). replies_of (machine_of l take_back) (state_of now between) (map_calls ys) ≡ others) same (two.replies take_back));
     state = λ take_back.
         let m = machine_of h.layout take_back in
-        ap (state_after m (state_of h supply)) (map-append (map_call_of h.layout.levels) xs ys)
-        ∙ state_append m (state_of h supply) (map_calls h.layout.levels xs) (map_calls h.layout.levels ys)
-        ∙ ap (λ (s : State). state_after m s (map_calls h.layout.levels ys)) (one.state take_back)
-        ∙ subst (λ (l : Layout). state_after (machine_of l take_back) (state_of now between) (map_calls l.levels ys) ≡ state_of after rest) same (two.state take_back);
+        ap (state_after m (state_of h supply)) (map-append map_call_of xs ys)
+        ∙ state_append m (state_of h supply) (map_calls xs) (map_calls ys)
+        ∙ ap (λ (s : State). state_after m s (map_calls ys)) (one.state take_back)
+        ∙ subst (λ (l : Layout). state_after (machine_of l take_back) (state_of now between) (map_calls ys) ≡ state_of after rest) same (two.state take_back);
   }
 
   pub accepts_then : Accepts h supply xs now between → Accepts now between ys after rest → Accepts h supply (xs ++ ys) after rest
@@ -68,7 +67,7 @@ refuses_then h now after supply between rest xs ys same next why one two =
 
 -- for one map
 pub made_one : {Lent : Type 0} (h : Hierarchy Lent) (supply : List ℕ) (level page frame given : ℕ) (answer : Answer) (after : Hierarchy Lent) (rest : List ℕ)
-    → MayMap h supply (MapTo (path_of h level page) frame given) → DoesMap h supply (MapTo (path_of h level page) frame given) answer after rest
+    → MayMap h supply (MapTo level page frame given) → DoesMap h supply (MapTo level page frame given) answer after rest
     → Made h supply (page_mapping level page frame given ∷ []) (Answered answer ∷ []) after rest
 made_one h supply level page frame given answer after rest may does = record {
   replies = λ take_back. ap (λ (x : AfterCall). x.reply ∷ []) (one take_back);
@@ -76,7 +75,7 @@ made_one h supply level page frame given answer after rest may does = record {
 }
   where
     call : Call
-    call = MapTo (path_of h level page) frame given
+    call = MapTo level page frame given
 
     one : (take_back : List ℕ → ℕ → List ℕ) → step (machine_of h.layout take_back) (state_of h supply) call ≡ record { state = state_of after rest; reply = Answered answer }
     one take_back = ap (λ b. cond b (do_call (machine_of h.layout take_back) (state_of h supply) call) (only_reply (state_of h supply) NotAllowed))
@@ -102,7 +101,7 @@ kept_none h supply fits = record {
 -- one map
 pub kept_one : {Lent : Type 0} {S : Type 0} (h after : Hierarchy Lent) (supply rest : Supply) (level page frame given : ℕ) → 1 ≤ level → level ≤ 3 → 3 < h.layout.levels
     → IsParentFlags h.layout.added_flags → IsMapping h.layout.places → (result : Result ℕ (MapToError S)) → IfOk result (λ flush. flush ≡ page)
-    → MayMap h supply.frames (MapTo (path_of h level page) frame given) → DoesMapFrom h supply (MapTo (path_of h level page) frame given) (map_answer frame result) after rest → KeptWithSupply h supply after rest
+    → MayMap h supply.frames (MapTo level page frame given) → MapsFrom h supply (MapTo level page frame given) (map_answer frame result) after rest → KeptWithSupply h supply after rest
 kept_one {S = S} h after supply rest level page frame given low high some adds mapping result same may does = record {
   fits = does.map.fits;
   keeps = λ serves fits. (served serves fits).keeps;
@@ -116,5 +115,5 @@ kept_one {S = S} h after supply rest level page frame given low high some adds m
     start : (serves : ℕ → Bool) → PoolFits h serves supply.frames → Start h.layout put_first serves h.memory supply.frames level
     start serves fits = record { at_least_four = some; adds = adds; gives = gives_first; mapping = mapping; fits = fits; low = low; high = high }
 
-    served : (serves : ℕ → Bool) (fits : PoolFits h serves supply.frames) → Serves S h.layout put_first serves h.memory supply.frames level (asked.MapTo page frame given) after.memory rest.frames (reply.Map result)
+    served : (serves : ℕ → Bool) (fits : PoolFits h serves supply.frames) → Serves S h.layout put_first serves h.memory supply.frames (MapTo level page frame given) after.memory rest.frames (reply.Map result)
     served serves fits = map_to_served h (start serves fits) page frame given result after rest.frames does.map same result refl may.allowed

@@ -8,14 +8,12 @@ use Rattle.x86_64_model.specs.Layout.{Layout}
 use Rattle.x86_64_model.specs.MapRule.{parent_part}
 use Rattle.x86_64_model.specs.Memory.{IsMapping}
 use Rattle.x86_64_model.specs.Hierarchy.{Hierarchy, DoesMap, MayMap, SupplyFits, allows_map, path_of}
-use Rattle.x86_64_model.specs.Path.{path_at}
 use Rattle.x86_64_model.specs.Position.{position_count, span}
 use Rattle.x86_64_model.specs.Refusal.{Answer, Done, Refused}
-use Rattle.x86_64_model.proofs.Lemmas.Machines.Owners.{does_map_to}
 use Rattle.x86_64_tables.specs.MapperAnswers.{map_refusal}
 use Rattle.x86_64_tables.specs.declared.errors.MapToError.{MapToError}
 use Rattle.x86_64_mappers.specs.Ranges.{MapRange, MapsAll, MayMapRange, MapsEach, StopsAt, accepted_maps, range_frame, map_at, range_of}
-use Rattle.x86_64_mappers.specs.Supplies.{Supply, DoesMapFrom}
+use Rattle.x86_64_mappers.specs.Supplies.{Supply, MapsFrom}
 use Rattle.x86_64_mappers.proofs.Range.Runs.{accepted_more}
 use Rattle.x86_64_loader.specs.private.Loads.{AreMapped, IsStopped}
 use Rattle.x86_64_loader.specs.Maps.{Accepts, Made, Refuses}
@@ -56,8 +54,8 @@ module _ {Lent : Type 0} (h : Hierarchy Lent) (supply : Supply) (level page fram
   }
 
   -- the map of page k
-  module _ (k : ℕ) (now : Hierarchy Lent) (left : List ℕ) (so_far : So_far k now left) (answer : Answer) (may : MayMap now left (map_at h.layout.levels r k)) (after : Hierarchy Lent) (rest : List ℕ)
-      (does : DoesMap now left (map_at h.layout.levels r k) answer after rest) where
+  module _ (k : ℕ) (now : Hierarchy Lent) (left : List ℕ) (so_far : So_far k now left) (answer : Answer) (may : MayMap now left (map_at r k)) (after : Hierarchy Lent) (rest : List ℕ)
+      (does : DoesMap now left (map_at r k) answer after rest) where
     abbrev p : ℕ
     p = page + k * span level
 
@@ -76,26 +74,20 @@ module _ {Lent : Type 0} (h : Hierarchy Lent) (supply : Supply) (level page fram
     mapping_now : IsMapping now.layout.places
     mapping_now = subst (λ (l : Layout). IsMapping l.places) (sym same) mapping
 
-    does_to : DoesMapFrom now (holding left) (MapTo (path_of now level p) f given) answer after (holding rest)
-    does_to = record {
-      map = subst (λ (l : Layout). DoesMap now left (MapTo (path_at l.levels level p) f given) answer after rest) (sym same) (does_map_to now left answer after rest (path_at h.layout.levels level p) f given does);
-      serves = refl;
-    }
-
-    may_to : MayMap now left (MapTo (path_of now level p) f given)
-    may_to = subst (λ (l : Layout). MayMap now left (MapTo (path_at l.levels level p) f given)) (sym same) (record { fits = may.fits; allowed = may.allowed })
+    does_to : MapsFrom now (holding left) (MapTo level p f given) answer after (holding rest)
+    does_to = record { map = does; serves = refl }
 
     made : Made now left (page_mapping level p f given ∷ []) (Answered answer ∷ []) after rest
-    made = made_one now left level p f given answer after rest may_to does_to.map
+    made = made_one now left level p f given answer after rest may does
 
     -- it was accepted
     done_more : answer ≡ Done f → f < 2 ^ 52 → So_far (suc k) after rest
     done_more accepts there =
-        let to = subst (λ a. DoesMapFrom now (holding left) (MapTo (path_of now level p) f given) a after (holding rest)) accepts does_to in
+        let to = subst (λ a. MapsFrom now (holding left) (MapTo level p f given) a after (holding rest)) accepts does_to in
         let one = subst (λ a. Made now left (page_mapping level p f given ∷ []) (Answered a ∷ []) after rest) accepts made in
-        let stands = makes_stand now after (holding left) (holding rest) level (span level) p f given refl low high some_now may_to adds_now there (add-mul-mod_self_right frame k (span level) ∙ frame_aligned) is_present to in
-        let free = was_free now after (holding left) (holding rest) level (span level) p f given refl low high some_now may_to (add-mul-mod_self_right page k (span level) ∙ page_aligned) to in
-        let leave = leaves now after (holding left) (holding rest) level (span level) p f given refl low high some_now may_to {S = ℕ} (Ok p) 3 refl (inr (done_not_refused f)) adds_now mapping_now to in
+        let stands = makes_stand now after (holding left) (holding rest) level (span level) p f given refl low high some_now may adds_now there (add-mul-mod_self_right frame k (span level) ∙ frame_aligned) is_present to in
+        let free = was_free now after (holding left) (holding rest) level (span level) p f given refl low high some_now may (add-mul-mod_self_right page k (span level) ∙ page_aligned) to in
+        let leave = leaves now after (holding left) (holding rest) level (span level) p f given refl low high some_now may {S = ℕ} (Ok p) 3 refl (inr (done_not_refused f)) adds_now mapping_now to in
         subst (λ j. So_far j after rest) (add-one k) (record {
           stand = one_more_stands h now after (holding rest) level (span level) page frame given k high so_far.stand leave stands;
           were_free = one_more_free h now after (holding rest) level (span level) page frame given k (holding left) so_far.were_free so_far.leaves free;
@@ -107,9 +99,9 @@ module _ {Lent : Type 0} (h : Hierarchy Lent) (supply : Supply) (level page fram
     -- it was refused
     refused_more : {S : Type 0} (why : MapToError S) → answer ≡ Refused (map_refusal why) → (count : ℕ) → k < count → IsStopped h supply level (span level) page frame given count k (map_refusal why) after (holding rest)
     refused_more {S} why refuses count less =
-        let to = subst (λ a. DoesMapFrom now (holding left) (MapTo (path_of now level p) f given) a after (holding rest)) refuses does_to in
+        let to = subst (λ a. MapsFrom now (holding left) (MapTo level p f given) a after (holding rest)) refuses does_to in
         let one = subst (λ a. Made now left (page_mapping level p f given ∷ []) (Answered a ∷ []) after rest) refuses made in
-        let leave = leaves now after (holding left) (holding rest) level (span level) p f given refl low high some_now may_to {S = S} (Err why) level tt (inl (omega arith)) adds_now mapping_now to in
+        let leave = leaves now after (holding left) (holding rest) level (span level) p f given refl low high some_now may {S = S} (Err why) level tt (inl (omega arith)) adds_now mapping_now to in
         record {
           within = less;
           stand = λ j before. leave.pages level (page + j * span level) (frame + j * span level) given (omega arith) (so_far.stand j before);

@@ -4,21 +4,21 @@ use Rattle.std.specs.Result.{IfOk}
 use Rattle.x86_64_model.specs.Call.{MapTo}
 use Rattle.x86_64_model.specs.Entry.{IsParentFlags, present}
 use Rattle.x86_64_model.specs.Memory.{IsMapping}
-use Rattle.x86_64_model.specs.Hierarchy.{Hierarchy, MayMap, IsMappedAs, path_of}
+use Rattle.x86_64_model.specs.Hierarchy.{Hierarchy, MayMap, IsMappedAs}
 use Rattle.x86_64_model.specs.Position.{span}
 use Rattle.x86_64_model.specs.Refusal.{Answer, Done, Refused, ParentEntryHugePage}
 use Rattle.x86_64_model.proofs.Lemmas.Machines.Standing.{map_to_stands, stands_after, stands_refuses}
 use Rattle.x86_64_tables.specs.MapperAnswers.{map_answer}
 use Rattle.x86_64_tables.specs.declared.errors.MapToError.{MapToError}
-use Rattle.x86_64_mappers.specs.Supplies.{Supply, DoesMapFrom}
+use Rattle.x86_64_mappers.specs.Supplies.{Supply, MapsFrom}
 use Rattle.x86_64_mappers.proofs.Map.MapArrivals.{frame_address, small_multiple}
 use Rattle.x86_64_loader.specs.Pages.{IsFree, LeavesSupply}
 use Rattle.x86_64_loader.proofs.Made.{kept_one}
 
 module _ {Lent : Type 0} (h after : Hierarchy Lent) (supply rest : Supply) (level size page frame given : ℕ) (spans : size ≡ span level) (low : 1 ≤ level) (high : level ≤ 3) (some : 3 < h.layout.levels)
-    (may : MayMap h supply.frames (MapTo (path_of h level page) frame given)) where
+    (may : MayMap h supply.frames (MapTo level page frame given)) where
   abbrev Does : Answer → Type 0
-  Does answer = DoesMapFrom h supply (MapTo (path_of h level page) frame given) answer after rest
+  Does answer = MapsFrom h supply (MapTo level page frame given) answer after rest
 
   fits_in : level ≤ h.layout.levels
   fits_in = omega (arith, some, high)

@@ -63,7 +63,7 @@ leaves_then h now after between rest first second highest in_first in_second one
 }
 
 pub may_now : {Lent : Type 0} {supply : Supply} (h now : Hierarchy Lent) (rest : Supply) (level size page frame given k : ℕ) → present given ≡ true → LeavesSupply 3 h supply now rest
-    → MayBeMapped h level size page frame given k → MayMap now rest.frames (MapTo (path_of now level (page + k * size)) (frame + k * size) given)
+    → MayBeMapped h level size page frame given k → MayMap now rest.frames (MapTo level (page + k * size) (frame + k * size) given)
 may_now h now rest level size page frame given k is_present left may = record {
   fits = left.kept.fits;
   allowed = subst (λ (l : Layout). map_allowed l.levels l.window (paths now) (path_at l.levels level (page + k * size)) given (parent_part given) ≡ true) (sym left.kept.layout)

@@ -14,8 +14,8 @@ use Rattle.x86_64_model.specs.Store.{KeepsPool}
 -- The pages were mapped by `map_to` in order. Answers and state are the machine's, however its pool takes frames back. The
 -- machine is the abstract mapper of the model.
 pub record Made {Lent : Type 0} (h : Hierarchy Lent) (supply : List ℕ) (pages : List PageMapping) (answers : List Reply) (after : Hierarchy Lent) (rest : List ℕ) : Type 0 where
-  pub replies : (take_back : List ℕ → ℕ → List ℕ) → replies_of (machine_of h.layout take_back) (state_of h supply) (map_calls h.layout.levels pages) ≡ answers
-  pub state : (take_back : List ℕ → ℕ → List ℕ) → state_after (machine_of h.layout take_back) (state_of h supply) (map_calls h.layout.levels pages) ≡ state_of after rest
+  pub replies : (take_back : List ℕ → ℕ → List ℕ) → replies_of (machine_of h.layout take_back) (state_of h supply) (map_calls pages) ≡ answers
+  pub state : (take_back : List ℕ → ℕ → List ℕ) → state_after (machine_of h.layout take_back) (state_of h supply) (map_calls pages) ≡ state_of after rest
 
 -- The pages were mapped by `map_to` in order, and every map was accepted.
 abbrev pub Accepts : {Lent : Type 0} → Hierarchy Lent → (supply : List ℕ) → List PageMapping → (after : Hierarchy Lent) → (rest : List ℕ) → Type 0

@@ -2,7 +2,7 @@
 -- mapped as `map_to` maps it.
 use Rattle.std.specs.Prelude.{◌≡◌, ◌+◌, ◌*◌, ◌^◌, ◌%◌, ◌<◌, ◌≤◌, ℕ, true}
 use Rattle.x86_64_model.specs.Call.{MapTo}
-use Rattle.x86_64_model.specs.Hierarchy.{Hierarchy, IsMappedAs, allows, path_of}
+use Rattle.x86_64_model.specs.Hierarchy.{Hierarchy, IsMappedAs, allows}
 use Rattle.x86_64_model.specs.Position.{span}
 use Rattle.x86_64_mappers.specs.Supplies.{Supply}
 use Rattle.x86_64_loader.specs.Maps.{KeptWithSupply}
@@ -12,7 +12,7 @@ use Rattle.x86_64_loader.specs.Maps.{KeptWithSupply}
 pub record MayBeMapped {Lent : Type 0} (h : Hierarchy Lent) (level size page frame flags k : ℕ) : Type 0 where
   pub page_there : page + k * size < 2 ^ 48
   pub frame_there : frame + k * size < 2 ^ 52
-  pub allowed : allows h (MapTo (path_of h level (page + k * size)) (frame + k * size) flags) ≡ true
+  pub allowed : allows h (MapTo level (page + k * size) (frame + k * size) flags) ≡ true
 
 -- The first `count` pages of a run stand, each mapped to its frame with these flags.
 abbrev pub RunStands : {Lent : Type 0} → Hierarchy Lent → (level size page frame flags count : ℕ) → Type 0

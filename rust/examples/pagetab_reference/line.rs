@@ -1,8 +1,7 @@
 //! What lines say.
 
 use crate::mode::Mode;
-use crate::test_reference::positions::path_at;
-use crate::test_reference::PlainCall;
+use crate::test_reference::{PlainCall, PlainPage};
 use std::num::ParseIntError;
 
 /// A line of the image, or a command.
@@ -72,10 +71,10 @@ fn address_call(mode: Mode, name: &str, addresses: &[u64]) -> Option<PlainCall> 
     }
 }
 
-/// Returns the call with a name and numbers on a page whose entry is of a level, or `None` if there is none.
+/// Returns the call with a name and numbers on a page of a level, or `None` if there is none.
 fn page_call(mode: Mode, level: usize, name: &str, numbers: &[u64]) -> Option<PlainCall> {
     let (&first, others) = numbers.split_first()?;
-    let page = path_at(mode.levels, level, mode.position_of(first)).ok()?;
+    let page = PlainPage { level, position: mode.position_of(first) };
     match (name, others) {
         ("map", &[frame, flags]) => Some(PlainCall::MapTo { page, frame, flags }),
         ("map-with", &[frame, flags, parent_flags]) => Some(PlainCall::MapToWithTableFlags { page, frame, flags, parent_flags }),

@@ -51,17 +51,17 @@ impl Mode {
 
     /// Returns true if a call isn't allowed because it names the recursive index of a pair.
     pub fn is_refused(self, call: &PlainCall) -> bool {
-        let named = match call {
+        let position = match *call {
             PlainCall::MapTo { page, .. }
             | PlainCall::MapToWithTableFlags { page, .. }
             | PlainCall::Unmap { page }
             | PlainCall::UpdateFlags { page, .. }
             | PlainCall::SetFlags { page, .. }
-            | PlainCall::TranslatePage { page } => page.first().copied(),
-            PlainCall::IdentityMap { frame, .. } => Some(index(self.levels, *frame)),
-            PlainCall::Translate { position } | PlainCall::TranslateAddress { position } => Some(index(self.levels, *position)),
-            PlainCall::CleanUp { .. } => None,
+            | PlainCall::TranslatePage { page } => page.position,
+            PlainCall::IdentityMap { frame, .. } => frame,
+            PlainCall::Translate { position } | PlainCall::TranslateAddress { position } => position,
+            PlainCall::CleanUp { .. } => return false,
         };
-        self.is_pair && named.is_some() && named == self.recursive_index
+        self.is_pair && Some(index(self.levels, position)) == self.recursive_index
     }
 }

@@ -2,7 +2,7 @@
 ghost use Rattle.std.specs.Prelude.{◌≡◌};
 ghost use Rattle.x86_64_model.specs.Call.{Unmap};
 ghost use Rattle.x86_64_model.specs.Memory.{identity_places};
-ghost use Rattle.x86_64_model.specs.Hierarchy.{◌laid_in◌, MayCall, Does, path_of, PoolFits, Valid};
+ghost use Rattle.x86_64_model.specs.Hierarchy.{◌laid_in◌, MayCall, Does, PoolFits, Valid};
 ghost use Rattle.x86_64_model.specs.Pool.{serves_below};
 ghost use Rattle.x86_64_mappers.specs.Layouts.{direct, owned};
 ghost use Rattle.x86_64_tables.specs.MapperAnswers.{frame_answer};
@@ -100,9 +100,9 @@ fn unmap_by<S: PageSize, M: Mapper<S>>(
     mapper: &mut M,
     page: Page<S>,
 ) -> Result<PhysFrame<S>, UnmapError>
-    requires { MayCall (M.hierarchy mapper.old) (Unmap (path_of (M.hierarchy mapper.old) S.LEVEL page)) }
-    ensures { let h = M.hierarchy mapper.old in
-        Does h (Unmap (path_of h S.LEVEL page)) (frame_answer result) (M.hierarchy mapper.new) }
+    requires { MayCall (M.hierarchy mapper.old) (Unmap S.LEVEL page) }
+    ensures { Does (M.hierarchy mapper.old) (Unmap S.LEVEL page) (frame_answer result)
+        (M.hierarchy mapper.new) }
 {
     let (frame, flush) = mapper.unmap(page)?;
     flush.ignore();
@@ -115,9 +115,9 @@ fn unmap_by_layer<S: PageSize, M: Mapper<S>>(
     mapper: &mut M,
     page: Page<S>,
 ) -> (Result<PhysFrame<S>, UnmapError>, u64)
-    requires { MayCall (M.hierarchy mapper.old) (Unmap (path_of (M.hierarchy mapper.old) S.LEVEL page)) }
-    ensures { let h = M.hierarchy mapper.old in
-        Does h (Unmap (path_of h S.LEVEL page)) (frame_answer result.0) (M.hierarchy mapper.new) }
+    requires { MayCall (M.hierarchy mapper.old) (Unmap S.LEVEL page) }
+    ensures { Does (M.hierarchy mapper.old) (Unmap S.LEVEL page) (frame_answer result.0)
+        (M.hierarchy mapper.new) }
 {
     let mut layer = Counting::new(mapper);
     let answer = unmap_by(&mut layer, page);
@@ -132,7 +132,7 @@ fn unmap_counted<S: PageSize>(
 ) -> (Result<PhysFrame<S>, UnmapError>, u64)
     requires { Valid (direct identity_places root laid_in memory.old) }
     ensures { let h = owned identity_places root memory.old (tt {0}) in
-        Does h (Unmap (path_of h S.LEVEL page)) (frame_answer result.0) (record h { memory = memory.new }) }
+        Does h (Unmap S.LEVEL page) (frame_answer result.0) (record h { memory = memory.new }) }
 {
     let mut mapper = MappedPageTable::new(memory, root, IdentityMapping);
     unmap_by_layer(&mut mapper, page)

@@ -1,7 +1,7 @@
 //! Calls of a mapper's methods, each if its condition holds, with the tokens flushed.
 ghost use Rattle.std.specs.Prelude.{◌≡◌, ◌<◌, ◌^◌, IfSome};
 ghost use Rattle.x86_64_model.specs.Call.{Unmap};
-ghost use Rattle.x86_64_model.specs.Hierarchy.{Valid, MayCall, PoolFits, SupplyFits, path_of};
+ghost use Rattle.x86_64_model.specs.Hierarchy.{Valid, MayCall, PoolFits, SupplyFits};
 ghost use Rattle.x86_64_model.specs.Pool.{serves_below};
 
 use super::{Exchange, State};
@@ -137,7 +137,7 @@ fn unmap<S: PageSize, M: Mapper<S>>(
     page: Page<S>,
     recorder: &mut FlushRecorder,
 ) -> Result<(PhysFrame<S>, Page<S>), UnmapError>
-    requires { MayCall (M.hierarchy mapper.old) (Unmap (path_of (M.hierarchy mapper.old) S.LEVEL page)) }
+    requires { MayCall (M.hierarchy mapper.old) (Unmap S.LEVEL page) }
 {
     let (frame, token) = mapper.unmap(page)?;
     let page = unwrap(rt, flush::<S, UnmapError>(rt, Ok(token), recorder));

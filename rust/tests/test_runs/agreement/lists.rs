@@ -32,7 +32,7 @@ struct Pair {
 impl Pair {
     /// Executes a call with both plain machines, asserts that their replies are equal, and returns the reply.
     fn step<L: LevelCount>(&mut self, call: CallRow, met: &mut Met) -> ReplyIn<L> {
-        let plain = unwrap(plain_of(L::LEVELS as usize, call));
+        let plain = plain_of(L::LEVELS as usize, call);
         let free = self.direct.plain.pool.len();
         let reply = self.direct.step(&plain);
         assert_equal(self.recursive.step(&plain), reply);

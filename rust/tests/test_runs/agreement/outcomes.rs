@@ -28,16 +28,16 @@ impl Met {
     }
 }
 
-/// Returns a number that says which call it is and, if it is on a page, of which size, by the length of its path.
+/// Returns a number that says which call it is and, if it is on a page, of which size, by its level.
 fn number_of(call: &PlainCall) -> usize {
     let (number, size) = match call {
-        PlainCall::MapTo { page, .. } => (0, page.len()),
-        PlainCall::MapToWithTableFlags { page, .. } => (8, page.len()),
+        PlainCall::MapTo { page, .. } => (0, page.level),
+        PlainCall::MapToWithTableFlags { page, .. } => (8, page.level),
         PlainCall::IdentityMap { level, .. } => (16, *level),
-        PlainCall::Unmap { page } => (24, page.len()),
-        PlainCall::UpdateFlags { page, .. } => (32, page.len()),
-        PlainCall::TranslatePage { page } => (40, page.len()),
-        PlainCall::SetFlags { level, page, .. } => (level * 64, page.len()),
+        PlainCall::Unmap { page } => (24, page.level),
+        PlainCall::UpdateFlags { page, .. } => (32, page.level),
+        PlainCall::TranslatePage { page } => (40, page.level),
+        PlainCall::SetFlags { level, page, .. } => (level * 64, page.level),
         PlainCall::Translate { .. } => (48, 0),
         PlainCall::TranslateAddress { .. } => (48, 1),
         // a clean up of all pages, which no range that is chosen has

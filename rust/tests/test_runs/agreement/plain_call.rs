@@ -3,28 +3,25 @@
 
 use crate::call_rows::{CallRow, PageCallRow};
 use crate::prelude::*;
-use crate::test_reference::positions::path_at;
-use crate::test_reference::PlainCall;
+use crate::test_reference::{PlainCall, PlainPage};
 
 /// Returns the call of the plain program, with this number of levels.
-pub fn plain_of(levels: usize, call: CallRow) -> Result<PlainCall, AllocError> {
+pub fn plain_of(levels: usize, call: CallRow) -> PlainCall {
     match call {
-        CallRow::Small(call) => page_call(levels, 1, call),
-        CallRow::Large(call) => page_call(levels, 2, call),
-        CallRow::Giant(call) => page_call(levels, 3, call),
-        CallRow::Translate(position) => Ok(PlainCall::Translate { position }),
-        CallRow::TranslateAddr(position) => Ok(PlainCall::TranslateAddress { position }),
-        CallRow::CleanUp => {
-            Ok(PlainCall::CleanUp { low: 0, high: if levels == 4 { 0xffff_ffff_ffff } else { 0x01ff_ffff_ffff_ffff } })
-        }
-        CallRow::CleanUpRange(low, last) => Ok(PlainCall::CleanUp { low, high: last | 0xfff }),
+        CallRow::Small(call) => page_call(1, call),
+        CallRow::Large(call) => page_call(2, call),
+        CallRow::Giant(call) => page_call(3, call),
+        CallRow::Translate(position) => PlainCall::Translate { position },
+        CallRow::TranslateAddr(position) => PlainCall::TranslateAddress { position },
+        CallRow::CleanUp => PlainCall::CleanUp { low: 0, high: if levels == 4 { 0xffff_ffff_ffff } else { 0x01ff_ffff_ffff_ffff } },
+        CallRow::CleanUpRange(low, last) => PlainCall::CleanUp { low, high: last | 0xfff },
     }
 }
 
-/// Returns the call on a page whose entry is of a level.
-fn page_call(levels: usize, level: usize, call: PageCallRow) -> Result<PlainCall, AllocError> {
-    let page = path_at(levels, level, page_of(call))?;
-    Ok(match call {
+/// Returns the call on a page of a level.
+fn page_call(level: usize, call: PageCallRow) -> PlainCall {
+    let page = PlainPage { level, position: page_of(call) };
+    match call {
         PageCallRow::MapTo(_, frame, flags) => PlainCall::MapTo { page, frame, flags },
         PageCallRow::MapToWithTableFlags(_, frame, flags, parent_flags) => {
             PlainCall::MapToWithTableFlags { page, frame, flags, parent_flags }
@@ -34,7 +31,7 @@ fn page_call(levels: usize, level: usize, call: PageCallRow) -> Result<PlainCall
         PageCallRow::UpdateFlags(_, flags) => PlainCall::UpdateFlags { page, flags },
         PageCallRow::SetFlags(entry_level, _, flags) => PlainCall::SetFlags { level: entry_level as usize, page, flags },
         PageCallRow::TranslatePage(_) => PlainCall::TranslatePage { page },
-    })
+    }
 }
 
 /// Returns the page of a call.

@@ -168,7 +168,7 @@ fn serve_directly<L: LevelCount>(
 fn serve_plainly(twins: &mut Twins, levels: usize, first: CallRow, count: u64) -> Outcome {
     let (mut pages, mut frames) = (0_u64, Digest { value: 0 });
     for number in 0..count {
-        let call = unwrap(plain_of(levels, call_on(first, number)));
+        let call = plain_of(levels, call_on(first, number));
         match (twins.step(&call), &call) {
             (Answered(Done(frame)), PlainCall::Unmap { .. }) => frames.take(frame_at::<Size4KiB>(frame)),
             (Answered(Done(_)), _) => pages += 1,

@@ -1,8 +1,6 @@
-use Rattle.std.proofs.Common.{◌≡◌, true, [], option_map, unwrap_or, sym, subst}
-use Rattle.x86_64_model.specs.Call.{IsCall}
+use Rattle.std.proofs.Common.{◌≡◌, true, [], option_map, unwrap_or, sym, ◌∙◌, subst}
 use Rattle.x86_64_model.specs.Hierarchy.{◌laid_in◌, PoolFits}
 use Rattle.x86_64_model.specs.Window.{Window}
-use Rattle.x86_64.specs.Asked.{machine_call}
 use Rattle.x86_64.specs.Calls.{to_call, page_of_call}
 use Rattle.x86_64.specs.FlushesDue.{TellsFlush, executed}
 use Rattle.x86_64.specs.Processors.{IsReachable, LeftBy}
@@ -25,7 +23,7 @@ returns-clause-again g c =
     let take_back = g.F.FrameDeallocator.take_back in
     let levels : l.levels ≡ g.L.LevelCount.LEVELS = g.met.M.TablesIn.level_count mapper in
     let ran = c.run_call-reply.ensures in
-    let call = to_call g.P5.LevelFiveFlags.bits c.args.call in
+    let call = to_call g.L.LevelCount.LEVELS g.P5.LevelFiveFlags.bits c.args.call in
     let flush = c.flush_after-flush.result in
     let before = g.C.Processor.cached c.args.processor.now in
     let first = g.C.Processor.cached c.cache.new.self in
@@ -33,7 +31,7 @@ returns-clause-again g c =
     let after = g.C.Processor.cached c.execute.new.processor in
     let arises : IsReachable l take_back serves n rest after [] =
     arises_by_flushed_calls l take_back serves m n (g.F.FrameAllocator.supply c.args.frames.now) rest call c.run_call-reply.result true
-    (subst (λ L. IsCall L (machine_call L call)) (sym levels) (is_call g.L.LevelCount.LEVELS g.L.LevelCount.at_least_four g.P5.LevelFiveFlags.bits g.met.P5.LevelFiveFlags.five c.args.call))
+    (is_call l.levels (g.met.M.Tables.at_least_four mapper) g.P5.LevelFiveFlags.bits (λ flags. levels ∙ g.met.P5.LevelFiveFlags.five flags) g.L.LevelCount.LEVELS c.args.call)
     c.requires.fits ran.step ran.free ran.keeps.keeps.fits (λ no. cc)
     flush (subst (λ L. TellsFlush L call c.run_call-reply.result (option_map (λ (w : Window). w.index) l.window) true flush) (sym levels) (rw (c.recursive_index.ensures, ran.keeps.layout) at c.flush_after-flush.ensures))
     before first second after c.requires.arises

@@ -1,6 +1,5 @@
-use Rattle.std.proofs.Common.{◌≡◌, drop}
+use Rattle.std.proofs.Common.{◌≡◌, drop, map}
 use Rattle.x86_64_model.specs.Machine.{Machine, State, state_after}
-use Rattle.x86_64.specs.Asked.{calls_by}
 use Rattle.x86_64.specs.Calls.{to_call}
 use Rattle.x86_64.specs.Runs.{machine_of, state_in}
 use Rattle.uses.specs.InUse.{InUse}
@@ -15,7 +14,7 @@ invariant-loop-call g l =
     let pool = g.F.FrameAllocator.supply l.frames in
     let now : State = state_in layout h.memory pool in
     record {
-      rest : state_after machine now (calls_by (to_call g.P5.LevelFiveFlags.bits) layout.levels (drop l.call-index l.calls)) ≡ state_after machine start (calls_by (to_call g.P5.LevelFiveFlags.bits) layout.levels l.calls);
+      rest : state_after machine now (map (to_call g.L.LevelCount.LEVELS g.P5.LevelFiveFlags.bits) (drop l.call-index l.calls)) ≡ state_after machine start (map (to_call g.L.LevelCount.LEVELS g.P5.LevelFiveFlags.bits) l.calls);
       layout : h.layout ≡ layout;
       in_use : InUse h (record { frames = pool; serves = g.F.FrameKeeper.serves l.frames; take_back = g.F.FrameDeallocator.take_back }) (g.C.Processor.cached l.processor);
     }

@@ -13,5 +13,5 @@ returns-clause-beside g c =
     after_call c.spaces_stay.ensures c.shared_halves_stay.ensures c.calls_keep_what_they_avoid.ensures c.calls_keep_root_entries.ensures
     levels high (g.P.PageTableFrameMapping.places c.args.mapping) (g.met.P.PageTableFrameMapping.is_mapping c.args.mapping) c.args.root
     g.F.FrameDeallocator.take_back (giving_from _ g.met.F.FrameDeallocator.take_back_rearranges) _ _ _ _ _ c.requires _ _ _ c.run_call.ensures.keeps.keeps
-    (to_call bits c.args.call) (is_call levels high bits g.met.P5.LevelFiveFlags.five c.args.call) _ c.run_call.ensures.step
+    (to_call levels bits c.args.call) (is_call levels high bits g.met.P5.LevelFiveFlags.five levels c.args.call) _ c.run_call.ensures.step
     c.new-mapper.ensures.layout c.new-mapper.ensures.memory (search rules)

@@ -1,13 +1,13 @@
 use Rattle.std.proofs.Common.{rules, subst₂, ap}
 use Rattle.x86_64_model.specs.Call.{Unmap}
-use Rattle.x86_64_model.specs.Hierarchy.{Hierarchy, Does, path_of}
+use Rattle.x86_64_model.specs.Hierarchy.{Hierarchy, Does}
 use Rattle.x86_64_tables.specs.MapperAnswers.{frame_answer}
 use Rattle.test_mappers.proofs.mappers.layer.unmap_by_layer.Goals as goal
 
 pub returns : goal.returns
 returns g c =
     let d = c.unmap_by-answer.ensures in
-    let Unmaps = λ (h after : Hierarchy g.M.Tables.Lent). Does h (Unmap (path_of h g.S.PageSize.LEVEL c.args.page)) (frame_answer c.unmap_by-answer.result) after in
+    let Unmaps = λ (h after : Hierarchy g.M.Tables.Lent). Does h (Unmap g.S.PageSize.LEVEL c.args.page) (frame_answer c.unmap_by-answer.result) after in
     let does : Unmaps (g.M.Tables.hierarchy c.new-layer.result.mapper.now) (g.M.Tables.hierarchy c.unmap_by-answer.new.mapper.mapper.now) = record {
       outcome = d.outcome;
       valid = d.valid;
