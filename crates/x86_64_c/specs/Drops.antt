@@ -7,7 +7,7 @@ use Rattle.x86_64_c.specs.Status.{ok}
 use Rattle.x86_64_c.specs.WordRanges.{range_next, range_status}
 use Rattle.x86_64_c.specs.declared.arguments.Hierarchy.{Hierarchy as Given}
 use Rattle.x86_64_live.specs.DroppedRanges.{EndsAtPage}
-use Rattle.x86_64_live.specs.PageRanges.{AllWhole, ExchangesPages, HasNoPage, pages_between, reached}
+use Rattle.x86_64_live.specs.PageRanges.{AllWhole, ExchangesPages, HasNoPage, page_entries, reached}
 use Rattle.x86_64_live.specs.declared.ranges.RangeEnd.{RangeEnd}
 use Rattle.x86_64_model.specs.Entry.{used}
 use Rattle.x86_64_model.specs.Hierarchy.{◌laid_in◌, Hierarchy, paths}
@@ -28,7 +28,7 @@ pub record DropsPages (h : Hierarchy (Unit {0})) (pool : Store) (first last : �
   pub next_is : next ≡ range_next h.layout.levels end
   -- The entries of these pages became 0, and nothing else changed, up to a memory in between.
   pub between : Memory
-  pub taken : ExchangesPages h.layout (λ _. 0) (pages_between h.layout.levels used (paths h) first (reached last end)) h.memory between
+  pub taken : ExchangesPages h.layout (λ _. 0) (page_entries h.layout.levels used (paths h) first (reached last end)) h.memory between
   -- From there on the call is that of a clean up of the whole range.
   pub cleaned : RunsCall (h.layout laid_in between) pool (CleanUpRange first (last + 0xfff)) after rest ok
   -- So none of the pages is there any more: no entry on the way to a position up to where the range ends is that of a page.

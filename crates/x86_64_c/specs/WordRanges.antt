@@ -4,7 +4,7 @@ use Rattle.std.specs.Option.{option_or}
 use Rattle.x86_64_c.specs.Arguments.{bad_hierarchy, position_of, starts_page, unless}
 use Rattle.x86_64_c.specs.Status as status
 use Rattle.x86_64_c.specs.declared.arguments.Hierarchy.{Hierarchy as Given}
-use Rattle.x86_64_live.specs.PageRanges.{ExchangesPages, SeesPages, are_flag_masks, goes_on_at, pages_between, reached, stop_of}
+use Rattle.x86_64_live.specs.PageRanges.{ExchangesPages, SeesPages, are_flag_masks, goes_on_at, page_entries, reached, stop_of}
 use Rattle.x86_64_live.specs.declared.ranges.PageWord.{PageWord}
 use Rattle.x86_64_live.specs.declared.ranges.RangeEnd.{RangeEnd}
 use Rattle.x86_64_live.specs.declared.ranges.RangeStop.{RangeStop}
@@ -59,7 +59,7 @@ pub record TellsPages (h : Hierarchy (Unit {0})) (wanted : ℕ → Bool) (first 
 -- From a hierarchy to the memory m the entries of the wanted pages of a range, up to where it ends, are exchanged, and nothing else changes.
 abbrev pub ExchangesRange : (h : Hierarchy (Unit {0})) → (wanted : ℕ → Bool) → (next : ℕ → ℕ) → (first last : ℕ) → RangeEnd (Unit {0}) → Memory → Type 0
 ExchangesRange h wanted next first last end m = let at = position_of h.layout.levels last in
-    ExchangesPages h.layout next (pages_between h.layout.levels wanted (paths h) (position_of h.layout.levels first) (reached at end)) h.memory m
+    ExchangesPages h.layout next (page_entries h.layout.levels wanted (paths h) (position_of h.layout.levels first) (reached at end)) h.memory m
 
 -- The wanted pages of a range are told, with the address at which it goes on, if it does.
 abbrev pub ListsRange : (h : Hierarchy (Unit {0})) → (wanted : ℕ → Bool) → (first last : ℕ) → (before after : List PageWord) → (status count was next : ℕ) → Type 0

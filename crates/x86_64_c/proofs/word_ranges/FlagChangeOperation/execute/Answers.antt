@@ -2,7 +2,7 @@ use Rattle.std.proofs.Common.{sym, ◌∙◌, subst, subst₂}
 use Rattle.x86_64_c.proofs.WordRangesTold.{end_alone, same_next, same_reached, same_status, seen_alone}
 use Rattle.x86_64_c.specs.Arguments.{at, position_of}
 use Rattle.x86_64_c.specs.WordRanges.{TellsPages}
-use Rattle.x86_64_live.specs.PageRanges.{ExchangesPages, SeesPages, pages_between, reached}
+use Rattle.x86_64_live.specs.PageRanges.{ExchangesPages, SeesPages, page_entries, reached}
 use Rattle.x86_64_model.specs.Entry.{present}
 use Rattle.x86_64_model.specs.Hierarchy.{paths}
 use Rattle.x86_64_model.specs.Live.{by_masks}
@@ -21,6 +21,6 @@ returns-clause-does g c =
     } in (
       end_alone seen.end,
       tells,
-      subst₂ (λ first last. ExchangesPages h.layout (by_masks c.args.self.now.keep c.args.self.now.set) (pages_between L present M first (reached last (end_alone seen.end))) h.memory (g.T.TableMemory.tables c.change_range-seen.new.memory)) range.first range.last
-          (subst (λ to. ExchangesPages h.layout (by_masks c.args.self.now.keep c.args.self.now.set) (pages_between L present M c.in_ok-range.range.start to) h.memory (g.T.TableMemory.tables c.change_range-seen.new.memory)) (same_reached c.in_ok-range.range.end seen.end) c.change_range-seen.ensures.changes),
+      subst₂ (λ first last. ExchangesPages h.layout (by_masks c.args.self.now.keep c.args.self.now.set) (page_entries L present M first (reached last (end_alone seen.end))) h.memory (g.T.TableMemory.tables c.change_range-seen.new.memory)) range.first range.last
+          (subst (λ to. ExchangesPages h.layout (by_masks c.args.self.now.keep c.args.self.now.set) (page_entries L present M c.in_ok-range.range.start to) h.memory (g.T.TableMemory.tables c.change_range-seen.new.memory)) (same_reached c.in_ok-range.range.end seen.end) c.change_range-seen.ensures.changes),
     )

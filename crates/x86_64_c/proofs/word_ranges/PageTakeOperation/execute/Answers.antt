@@ -2,7 +2,7 @@ use Rattle.std.proofs.Common.{sym, ◌∙◌, subst, subst₂}
 use Rattle.x86_64_c.proofs.WordRangesTold.{end_alone, same_next, same_reached, same_status, seen_alone}
 use Rattle.x86_64_c.specs.Arguments.{at, position_of}
 use Rattle.x86_64_c.specs.WordRanges.{TellsPages}
-use Rattle.x86_64_live.specs.PageRanges.{ExchangesPages, SeesPages, pages_between, reached}
+use Rattle.x86_64_live.specs.PageRanges.{ExchangesPages, SeesPages, page_entries, reached}
 use Rattle.x86_64_model.specs.Entry.{used}
 use Rattle.x86_64_model.specs.Hierarchy.{paths}
 use Rattle.x86_64_c.proofs.word_ranges.PageTakeOperation.execute.Goals as goal
@@ -20,6 +20,6 @@ returns-clause-does g c =
     } in (
       end_alone seen.end,
       tells,
-      subst₂ (λ first last. ExchangesPages h.layout (λ _. 0) (pages_between L used M first (reached last (end_alone seen.end))) h.memory (g.T.TableMemory.tables c.take_range-seen.new.memory)) range.first range.last
-          (subst (λ to. ExchangesPages h.layout (λ _. 0) (pages_between L used M c.in_ok-range.range.start to) h.memory (g.T.TableMemory.tables c.take_range-seen.new.memory)) (same_reached c.in_ok-range.range.end seen.end) c.take_range-seen.ensures.changes),
+      subst₂ (λ first last. ExchangesPages h.layout (λ _. 0) (page_entries L used M first (reached last (end_alone seen.end))) h.memory (g.T.TableMemory.tables c.take_range-seen.new.memory)) range.first range.last
+          (subst (λ to. ExchangesPages h.layout (λ _. 0) (page_entries L used M c.in_ok-range.range.start to) h.memory (g.T.TableMemory.tables c.take_range-seen.new.memory)) (same_reached c.in_ok-range.range.end seen.end) c.take_range-seen.ensures.changes),
     )
