@@ -1,8 +1,8 @@
 -- What the drop of a range of pages does: the pages are taken away, and then the empty tables are freed.
 use Rattle.std.specs.Prelude.{◌≡◌, ◌≤◌, ◌+◌, ℕ, List, length, Option, Some, None, unwrap_or}
 use Rattle.x86_64.specs.Asked.{CleanUpRange}
-use Rattle.x86_64_c.specs.Arguments.{hierarchy_in, position_of}
-use Rattle.x86_64_c.specs.PoolCalls.{Loan, RunsCall, bad_lent, pool_in, wrong_range}
+use Rattle.x86_64_c.specs.Arguments.{hierarchy_in, position_of, wrong_ends}
+use Rattle.x86_64_c.specs.PoolCalls.{Loan, RunsCall, bad_lent, pool_in}
 use Rattle.x86_64_c.specs.Status.{ok}
 use Rattle.x86_64_c.specs.WordRanges.{range_next, range_status}
 use Rattle.x86_64_c.specs.declared.arguments.Hierarchy.{Hierarchy as Given}
@@ -16,7 +16,7 @@ use Rattle.x86_64_model.specs.Store.{Store}
 
 -- What is wrong with the arguments of a drop: the hierarchy, or else the number of free frames, or else the first or the last page.
 abbrev pub wrong_drop : Given → Loan → (first last : ℕ) → Option ℕ
-wrong_drop h lent first last = bad_lent h lent (wrong_range h.levels first last)
+wrong_drop h lent first last = bad_lent h lent (wrong_ends h.levels first last)
 
 -- The pages from the one at the position `first` to the one at `last` were dropped, up to where the range ends, which the status tells,
 -- and the address at which it goes on.
