@@ -332,7 +332,7 @@
  * Proved is what the functions return and write that this file only declares, as their descriptions
  * say it: the raw calls, those on flushes and those on parts of larger pages. The contract of the
  * function of the same name in crates/x86_64_c/src carries it. Those of x64_list_range,
- * x64_take_range, x64_change_range and x64_drop say it by pages_between and ExchangesPages, which
+ * x64_take_range, x64_change_range and x64_drop say it by page_entries and ExchangesPages, which
  * crates/x86_64_live/specs/PageRanges.antt defines. The laws named above are theorems of these
  * names.
  *

@@ -9,7 +9,7 @@ use Rattle.x86_64.specs.Pairs.{pool_store}
 use Rattle.x86_64.proofs.FreeFrames.{nothing_keeps_free}
 use Rattle.x86_64.proofs.Keeping.{kept_none}
 use Rattle.pagetab_engine.specs.Modes.{layout}
-use Rattle.pagetab_engine.specs.Hierarchy.{hierarchy_of, layout_of, ModeReaches, HasTwin, IsHierarchy, KeepsHierarchy, KeepsFree}
+use Rattle.pagetab_engine.specs.Hierarchy.{hierarchy_of, layout_of, ModeReaches, HasTwin, IsHierarchy, KeepsHierarchy, KeepsFreeWords}
 use Rattle.pagetab_engine.specs.declared.arguments.Mode.{Mode}
 use Rattle.pagetab_engine.specs.declared.arguments.Mode.TheVariants.{Direct, Offset, Recursive, Pair}
 use Rattle.pagetab_engine.specs.declared.hierarchy.Hierarchy.{Hierarchy}
@@ -50,5 +50,5 @@ kept_by before after same mode is reached twin kept =
 -- ---- the words of free frames
 
 -- if nothing changes, no frame was returned
-pub free_itself : (hierarchy : Hierarchy) (back : List ℕ) → back ≡ [] → KeepsFree hierarchy back hierarchy
-free_itself hierarchy back none = subst (λ back. KeepsFree hierarchy back hierarchy) (sym none) (nothing_keeps_free (layout_of hierarchy) hierarchy.frames.memory hierarchy.frames.pool.frames)
+pub free_itself : (hierarchy : Hierarchy) (back : List ℕ) → back ≡ [] → KeepsFreeWords hierarchy back hierarchy
+free_itself hierarchy back none = subst (λ back. KeepsFreeWords hierarchy back hierarchy) (sym none) (nothing_keeps_free (layout_of hierarchy) hierarchy.frames.memory hierarchy.frames.pool.frames)

@@ -12,7 +12,7 @@ use Rattle.x86_64.specs.declared.call_values.MapperReply.TheVariants.{NotAllowed
 use Rattle.pagetab_engine.specs.Arguments.{count, levels_of}
 use Rattle.pagetab_engine.specs.Calls.{IsAnswered}
 use Rattle.pagetab_engine.specs.Commands.{Call}
-use Rattle.pagetab_engine.specs.Hierarchy.{hierarchy_of, hierarchy_state, layout_of, IsHierarchy, KeepsFree, KeepsHierarchy, TwinTells}
+use Rattle.pagetab_engine.specs.Hierarchy.{hierarchy_of, hierarchy_state, layout_of, IsHierarchy, KeepsFreeWords, KeepsHierarchy, TwinTells}
 use Rattle.pagetab_engine.specs.Situation.{call_back, call_step, situation_machine}
 use Rattle.pagetab_engine.specs.Modes.{is_index_named, is_refused}
 use Rattle.pagetab_engine.specs.private.RunParts.{AnswersCommand, situation_of}
@@ -56,7 +56,7 @@ module _ (hierarchy : Hierarchy) (call : model.Call) where
         reply = λ _. ap (λ (after : AfterStep Reply). option_map Answered after.reply) step;
         state = ap (λ (l : Layout). runs.state_in l after.frames.memory after.frames.pool.frames) keeps.keeps.layout ∙ sym (ap (λ (after : AfterStep Reply). after.state) step);
         reads = λ refuses. absurd (let t : true ≡ false = sym refuses ∙ is in cc);
-        free = subst (λ back. KeepsFree hierarchy back after) (sym back) answered.free;
+        free = subst (λ back. KeepsFreeWords hierarchy back after) (sym back) answered.free;
         keeps = keeps;
         both = λ _. twin;
       }

@@ -8,7 +8,7 @@ use Rattle.x86_64_model.specs.Machine.{State}
 use Rattle.x86_64_model.specs.Memory.{Memory}
 use Rattle.x86_64_model.specs.Store.{StoreFits, Keeps}
 use Rattle.x86_64_mappers.specs.Offsets.{OffsetFits}
-use Rattle.x86_64.specs.FreeFrames.{KeepsFree as KeepsFreeFrames}
+use Rattle.x86_64.specs.FreeFrames.{KeepsFree}
 use Rattle.x86_64.specs.Pairs.{AreAlike, pool_store}
 use Rattle.x86_64.specs.Runs as runs
 use Rattle.x86_64.specs.Replies.{Reply}
@@ -51,8 +51,8 @@ abbrev pub hierarchy_state : Hierarchy → State
 hierarchy_state hierarchy = runs.state_with (hierarchy_of hierarchy) (pool_store hierarchy.frames.pool)
 
 -- Free frames keep their words, except that returned frames hold zeros.
-abbrev pub KeepsFree : (before : Hierarchy) → (back : List ℕ) → (after : Hierarchy) → Type 0
-KeepsFree before back after = KeepsFreeFrames (layout_of before) before.frames.memory before.frames.pool.frames back after.frames.memory after.frames.pool.frames
+abbrev pub KeepsFreeWords : (before : Hierarchy) → (back : List ℕ) → (after : Hierarchy) → Type 0
+KeepsFreeWords before back after = KeepsFree (layout_of before) before.frames.memory before.frames.pool.frames back after.frames.memory after.frames.pool.frames
 
 -- The recursive mapper executes the call in these frames, with this reply.
 abbrev pub AnswersRecursively : (levels index : ℕ) (before : Frames) → Call → (after : Frames) → Reply → Type 0

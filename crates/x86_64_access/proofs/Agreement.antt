@@ -15,7 +15,7 @@ use Rattle.x86_64_model.specs.Steps.{Step}
 use Rattle.x86_64_access.specs.private.Walking.{access_on}
 use Rattle.x86_64_tables.specs.Rights.{both}
 use Rattle.x86_64_access.specs.Laws.{ArriveWhereWalksDo, WalksAllowedArrive}
-use Rattle.x86_64_access.specs.Paths.{words_in}
+use Rattle.x86_64_access.specs.Paths.{step_words}
 use Rattle.x86_64_access.proofs.Walked.{and_left, and_right, is_arrival, on_fault, on_none, on_page, on_root, on_table as to_table, on_zero, not_huge, page_low, steps_first, steps_on, steps_page, page_ends, table_high}
 
 -- the arrival in a page
@@ -109,7 +109,7 @@ module _ (c : Controls) (T : Words) (p : ℕ) (a : Access) where
   -- an access on a walk that arrives is allowed and finds no reserved bit
   abbrev MayArrive : (level frame : ℕ) → Rights → Walked → Type 0
   MayArrive level frame r w = (walk_on T p level r.write r.user frame ≡ Some w) × AllSound (steps_from c T p level frame)
-      × (access_allowed c a (both r (rights_of (words_in (steps_from c T p level frame)))) ≡ true)
+      × (access_allowed c a (both r (rights_of (step_words (steps_from c T p level frame)))) ≡ true)
 
   page_allowed : (level frame : ℕ) (r : Rights) (e : ℕ) (w : Walked) → 1 ≤ level → Some e ≡ read T frame (index level p)
       → present e ≡ true → reserved c level e ≡ false → maps_page level e ≡ true
@@ -138,7 +138,7 @@ module _ (c : Controls) (T : Words) (p : ℕ) (a : Access) where
       by_page : (e : ℕ) → Some e ≡ read T frame (index (suc n) p) → present e ≡ true
           → (b : Bool) → maps_page (suc n) e ≡ b → access_on c T p a (suc n) frame r ≡ Arrives w.address
       by_page e is here true page = page_allowed (suc n) frame r e w low is here (first_sound e is) page walks
-          (sym (ap (access_allowed c a) (ap (λ steps. both r (rights_of (words_in steps))) (steps_page c T p a (suc n) frame r e low is page)
+          (sym (ap (access_allowed c a) (ap (λ steps. both r (rights_of (step_words steps))) (steps_page c T p a (suc n) frame r e low is page)
           ∙ both_last r e)) ∙ enough)
       by_page e is here false table =
           let sound = first_sound e is in
@@ -152,7 +152,7 @@ module _ (c : Controls) (T : Words) (p : ℕ) (a : Access) where
           ∙ below (address e) (granted r e) (
             ap (λ k. walk_on T p k (r.write && writable e) (r.user && user e) (address e)) (sym less) ∙ on_table T p (suc n) r.write r.user frame e is more here small ∙ walks,
             (λ s member. all_sound s (subst (λ list. In list s) (sym steps) (inr member))),
-            sym (ap (access_allowed c a) (ap (λ list. both r (rights_of (words_in list))) steps ∙ both_more r e (words_in (steps_from c T p n (address e))))) ∙ enough,
+            sym (ap (access_allowed c a) (ap (λ list. both r (rights_of (step_words list))) steps ∙ both_more r e (step_words (steps_from c T p n (address e))))) ∙ enough,
           )
 
       by_present : (e : ℕ) → Some e ≡ read T frame (index (suc n) p) → (b : Bool) → present e ≡ b

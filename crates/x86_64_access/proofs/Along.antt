@@ -9,7 +9,7 @@ use Rattle.x86_64_model.specs.Memory.{Words}
 use Rattle.x86_64_model.specs.PageWalk.{read}
 use Rattle.x86_64_model.specs.Position.{index}
 use Rattle.x86_64_model.specs.Steps.{Step, leads_on, rights_in, steps}
-use Rattle.x86_64_access.specs.Paths.{IsAccessWherever, access_along, steps_along, words_in}
+use Rattle.x86_64_access.specs.Paths.{IsAccessWherever, access_along, steps_along, step_words}
 use Rattle.x86_64_access.specs.private.Walking.{along_on, reads_on}
 use Rattle.x86_64_access.proofs.Walked.{at_last, comes_of, first_ends, first_leads, reads_first, step_at}
 
@@ -63,7 +63,7 @@ module _ (c : Controls) (p : ℕ) (a : Access) (level frame : ℕ) (r : Rights) 
 -- ---- in a memory
 
 -- the steps along the words that a walk reads are its steps
-steps_back : (T : Words) (p level frame : ℕ) → steps_along p level frame (words_in (steps T p level frame)) ≡ steps T p level frame
+steps_back : (T : Words) (p level frame : ℕ) → steps_along p level frame (step_words (steps T p level frame)) ≡ steps T p level frame
 unfolding steps steps_along
 steps_back T p zero frame = refl
 steps_back T p (suc n) frame = by (λ f. steps_back T p n f) (read T frame (index (suc n) p))
@@ -72,12 +72,12 @@ steps_back T p (suc n) frame = by (λ f. steps_back T p n f) (read T frame (inde
     found o = unwrap_or (option_map
         (λ e. step_at p (suc n) frame e ∷ cond (leads_on (suc n) e) (steps T p n (address e)) []) o) []
 
-    on : (f : ℕ) → steps_along p n f (words_in (steps T p n f)) ≡ steps T p n f → (b : Bool)
-        → cond b (steps_along p n f (words_in (cond b (steps T p n f) []))) [] ≡ cond b (steps T p n f) []
+    on : (f : ℕ) → steps_along p n f (step_words (steps T p n f)) ≡ steps T p n f → (b : Bool)
+        → cond b (steps_along p n f (step_words (cond b (steps T p n f) []))) [] ≡ cond b (steps T p n f) []
     on f back true = back
     on f back false = refl
 
-    by : ((f : ℕ) → steps_along p n f (words_in (steps T p n f)) ≡ steps T p n f) → (o : Option ℕ) → steps_along p (suc n) frame (words_in (found o)) ≡ found o
+    by : ((f : ℕ) → steps_along p n f (step_words (steps T p n f)) ≡ steps T p n f) → (o : Option ℕ) → steps_along p (suc n) frame (step_words (found o)) ≡ found o
     by back None = refl
     by back (Some e) = ap (λ below. step_at p (suc n) frame e ∷ below) (on (address e) (back (address e)) (leads_on (suc n) e))
 

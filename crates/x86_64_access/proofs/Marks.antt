@@ -185,9 +185,6 @@ accesses_stay L c T U root p a marked = on_root c U p a L root
 
 -- ---- what an access leaves
 
-stays : (e : ℕ) → GetsMarks e e
-stays e = inl refl
-
 none_marked : (T : Words) → OnlyMarks T T
 none_marked T = record { there = λ f. (λ h. h, λ h. h); words = λ f i. inl refl }
 

@@ -12,7 +12,7 @@ use Rattle.x86_64_model.specs.Access.{Access, Kind, Controls, set_bits, bits_to_
 use Rattle.x86_64_access.proofs.Deciding.{both_left, both_right}
 use Rattle.x86_64_access.proofs.ReservedBySome.{low_none, page_none, table_none}
 use Rattle.x86_64_model.specs.Steps.{Step, leads_on, steps}
-use Rattle.x86_64_access.specs.Paths.{words_in}
+use Rattle.x86_64_access.specs.Paths.{step_words}
 use Rattle.x86_64_access.specs.private.Walking.{access_on, may_read_on, reads_on, ArrivesFrom}
 use Rattle.x86_64_tables.specs.Rights.{both}
 use Rattle.std.specs.Int.Bits.{and_zero_r}
@@ -184,8 +184,8 @@ module _ (c : Controls) (p : ℕ) (a : Access) (level frame : ℕ) (r : Rights) 
   after : (steps : List Step) → ends_at c a p (both r (rights_of (e ∷ []))) (step_at p level frame e) ≡ NoMemory (address e)
       → comes_of c a p r frame (step_at p level frame e ∷ steps) ≡ comes_of c a p (granted r e) (address e) steps
   after [] gone = gone
-  after (s ∷ steps) gone = ap (λ k. ends_by c a p k frame (last_or (Some s) steps)) (both_more r e (s.word ∷ words_in steps))
-      ∙ at_last c a p (both (granted r e) (rights_of (s.word ∷ words_in steps))) frame (address e) s steps
+  after (s ∷ steps) gone = ap (λ k. ends_by c a p k frame (last_or (Some s) steps)) (both_more r e (s.word ∷ step_words steps))
+      ∙ at_last c a p (both (granted r e) (rights_of (s.word ∷ step_words steps))) frame (address e) s steps
 
   -- they go on in the table that the word names
   pub first_leads : present e ≡ true → reserved c level e ≡ false → maps_page level e ≡ false

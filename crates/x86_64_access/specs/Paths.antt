@@ -17,8 +17,8 @@ steps_along p (suc n) frame (e ∷ words) =
     record { level = suc n; frame = frame; index = index (suc n) p; word = e } ∷ cond (leads_on (suc n) e) (steps_along p n (address e) words) []
 
 -- The words of steps.
-abbrev pub words_in : List Step → List ℕ
-words_in steps = map (λ s. s.word) steps
+abbrev pub step_words : List Step → List ℕ
+step_words steps = map (λ s. s.word) steps
 
 -- What a processor does with an access at position p (the number of an address counted without the non-canonical gap), if it reads
 -- these words one after another, by L levels of tables below a root. After the last of them it needs the table that this names.
@@ -27,4 +27,4 @@ access_along L c root p a words = outcome c a p root (until (λ s. reserved c s.
 
 -- In every memory in which the page walk of position p reads these words, this is what comes of an access there.
 abbrev pub IsAccessWherever : (L : ℕ) → Controls → (root p : ℕ) → Access → (words : List ℕ) → Outcome → Type 0
-IsAccessWherever L c root p a words came = (T : Words) → words_in (steps T p L root) ≡ words → came ≡ access L c T root p a
+IsAccessWherever L c root p a words came = (T : Words) → step_words (steps T p L root) ≡ words → came ≡ access L c T root p a

@@ -1,7 +1,7 @@
 -- What a drop of a range leaves of the caller's tables and pool, and the status that it has.
 use Rattle.std.proofs.Common.{◌≡◌, ◌+◌, ℕ, List, Option, Some, None, refl, sym, ◌∙◌, subst, subst₂, unwrap_or}
 use Rattle.x86_64_live.specs.DroppedRanges.{DropsRange, EndsAtPage}
-use Rattle.x86_64_live.specs.PageRanges.{AllWhole, ExchangesPages, HasNoPage, pages_between}
+use Rattle.x86_64_live.specs.PageRanges.{AllWhole, ExchangesPages, HasNoPage, page_entries}
 use Rattle.x86_64_live.specs.declared.ranges.RangeEnd.{RangeEnd}
 use Rattle.x86_64_live.specs.declared.ranges.RangeEnd.TheVariants.{All, More, LargerPage}
 use Rattle.x86_64_model.specs.Entry.{IsParentFlags, used}
@@ -40,7 +40,7 @@ dropped l store rest m n first last held left same_held same_left adds gives map
       status_is = told ∙ same_status end;
       next_is = goes_on ∙ same_next l.levels end;
       between = drops.between;
-      taken = subst (λ to. ExchangesPages l (λ _. 0) (pages_between l.levels used M first to) m drops.between) to drops.taken;
+      taken = subst (λ to. ExchangesPages l (λ _. 0) (page_entries l.levels used M first to) m drops.between) to drops.taken;
       cleaned = cleaned l store rest drops.cleaned.serves drops.between n first (last + 0xfff) held left same_held same_left adds gives mapping
           (drops.taken store.serves store.frames fits).keeps.fits drops.cleaned.cleans;
       gone = subst (HasNoPage l.levels used (paths (of l n)) first) to drops.gone;

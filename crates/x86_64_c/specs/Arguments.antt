@@ -43,12 +43,12 @@ abbrev pub starts_frame : (size start : ℕ) → Bool
 starts_frame size f = nat_lt f (2 ^ 52) && (f % size == 0)
 
 -- Whether the 4KiB frame at an address has one of so many tables.
-abbrev pub has_table : Places → (count frame : ℕ) → Bool
-has_table places count f = starts_frame 4096 f && (places.covers f && nat_lt (places.place f) count)
+abbrev pub frame_has_table : Places → (count frame : ℕ) → Bool
+frame_has_table places count f = starts_frame 4096 f && (places.covers f && nat_lt (places.place f) count)
 
 -- What is wrong with the address of a root, with these places of frames and so many tables.
 abbrev pub wrong_root : Places → (count root : ℕ) → Option ℕ
-wrong_root places count root = unless (has_table places count root) status.bad_root
+wrong_root places count root = unless (frame_has_table places count root) status.bad_root
 
 -- What is wrong with segments.
 abbrev pub wrong_segments : List FrameSegment → Option ℕ
@@ -108,6 +108,10 @@ starts_page L size start = is_canonical L start && (position_of L start % size =
 -- What is wrong with a page with L levels: its size, or its start.
 abbrev pub wrong_page : (L : ℕ) → Page → Option ℕ
 wrong_page L page = unless (is_size page.size && starts_page L page.size page.start) status.bad_page
+
+-- What is wrong with the addresses of the first and the last page of a range, with L levels: each has to be that of a 4KiB page.
+abbrev pub wrong_ends : (L first last : ℕ) → Option ℕ
+wrong_ends L first last = unless (starts_page L 0x1000 first && starts_page L 0x1000 last) status.bad_page
 
 -- The level of the entries that map pages of a size: one for 4KiB, two for 2MiB, and three for 1GiB.
 abbrev pub level_of_page_size : (size : ℕ) → ℕ

@@ -1,12 +1,12 @@
 -- What the drop of a range of pages does: the pages are taken away, and then the empty tables are freed.
 use Rattle.std.specs.Prelude.{◌≡◌, ◌≤◌, ◌+◌, ℕ, List, length, Option, Some, None, unwrap_or}
-use Rattle.x86_64_c.specs.Arguments.{hierarchy_in, position_of}
-use Rattle.x86_64_c.specs.PoolCalls.{Loan, RunsCall, bad_lent, pool_in, wrong_range}
+use Rattle.x86_64_c.specs.Arguments.{hierarchy_in, position_of, wrong_ends}
+use Rattle.x86_64_c.specs.PoolCalls.{Loan, RunsCall, bad_lent, pool_in}
 use Rattle.x86_64_c.specs.Status.{ok}
 use Rattle.x86_64_c.specs.WordRanges.{range_next, range_status}
 use Rattle.x86_64_c.specs.declared.arguments.Hierarchy.{Hierarchy as Given}
 use Rattle.x86_64_live.specs.DroppedRanges.{EndsAtPage}
-use Rattle.x86_64_live.specs.PageRanges.{AllWhole, ExchangesPages, HasNoPage, pages_between, reached}
+use Rattle.x86_64_live.specs.PageRanges.{AllWhole, ExchangesPages, HasNoPage, page_entries, reached}
 use Rattle.x86_64_live.specs.declared.ranges.RangeEnd.{RangeEnd}
 use Rattle.x86_64_model.specs.Call.{CleanUp}
 use Rattle.x86_64_model.specs.Entry.{used}
@@ -16,7 +16,7 @@ use Rattle.x86_64_model.specs.Store.{Store}
 
 -- What is wrong with the arguments of a drop: the hierarchy, or else the number of free frames, or else the first or the last page.
 abbrev pub wrong_drop : Given → Loan → (first last : ℕ) → Option ℕ
-wrong_drop h lent first last = bad_lent h lent (wrong_range h.levels first last)
+wrong_drop h lent first last = bad_lent h lent (wrong_ends h.levels first last)
 
 -- The pages from the one at the position `first` to the one at `last` were dropped, up to where the range ends, which the status tells,
 -- and the address at which it goes on.
@@ -28,7 +28,7 @@ pub record DropsPages (h : Hierarchy (Unit {0})) (pool : Store) (first last : �
   pub next_is : next ≡ range_next h.layout.levels end
   -- The entries of these pages became 0, and nothing else changed, up to a memory in between.
   pub between : Memory
-  pub taken : ExchangesPages h.layout (λ _. 0) (pages_between h.layout.levels used (paths h) first (reached last end)) h.memory between
+  pub taken : ExchangesPages h.layout (λ _. 0) (page_entries h.layout.levels used (paths h) first (reached last end)) h.memory between
   -- From there on the call is that of a clean up of the whole range.
   pub cleaned : RunsCall (h.layout laid_in between) pool (CleanUp first (last + 0xfff)) after rest ok
   -- So none of the pages is there any more: no entry on the way to a position up to where the range ends is that of a page.

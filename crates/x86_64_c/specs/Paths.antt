@@ -1,7 +1,7 @@
 -- Accesses by the entries of a path that the caller has read.
 use Rattle.std.specs.Prelude.{◌≡◌, ℕ, ◌==◌, ◌&&◌, ◌||◌, nat_le, List, map, Option}
 use Rattle.std.specs.Option.{option_or}
-use Rattle.x86_64_access.specs.Paths.{access_along, words_in}
+use Rattle.x86_64_access.specs.Paths.{access_along, step_words}
 use Rattle.x86_64_mappings.specs.declared.walk_entries.WalkEntry.{WalkEntry}
 use Rattle.x86_64_model.specs.Access as model
 use Rattle.x86_64_model.specs.Hierarchy.{Hierarchy}
@@ -40,4 +40,4 @@ WritesAlong levels c request entries s after = (root : ℕ) → WritesOutcome (p
 -- there was written, and the status is that of it.
 abbrev pub WritesWherever : (levels : ℕ) → Controls → AccessRequest → List WalkEntry → (status : ℕ) → (after : Outcome) → Type 0
 WritesWherever levels c request entries s after = (h : Hierarchy (Unit {0})) → h.layout.levels ≡ levels
-    → words_in (steps_walked h request.address) ≡ words_of_entries entries → WritesOutcome (access_outcome h c request) s after
+    → step_words (steps_walked h request.address) ≡ words_of_entries entries → WritesOutcome (access_outcome h c request) s after

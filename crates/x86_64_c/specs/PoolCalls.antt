@@ -1,5 +1,5 @@
 -- What calls that take frames from a pool or return frames to it do: maps and clean ups.
-use Rattle.std.specs.Prelude.{◌≡◌, ◌≢◌, ◌≤◌, ℕ, ◌+◌, true, ◌&&◌, nat_le, List, length, Option, Some, None, option_map}
+use Rattle.std.specs.Prelude.{◌≡◌, ◌≢◌, ◌≤◌, ℕ, ◌+◌, true, nat_le, List, length, Option, Some, None, option_map}
 use Rattle.std.specs.Option.{option_or}
 use Rattle.x86_64_model.specs.Call.{Call, CleanUp, MapToWithTableFlags}
 use Rattle.x86_64_model.specs.Hierarchy.{Hierarchy}
@@ -8,7 +8,7 @@ use Rattle.x86_64_tables.specs.LentPool.{is_in, stacked}
 use Rattle.x86_64.specs.Replies.{Reply, changes_nothing}
 use Rattle.x86_64.specs.Runs.{LeavesFree, Stepped, machine_with, state_with, step_by}
 use Rattle.x86_64_c.specs.Calls.{reply_status}
-use Rattle.x86_64_c.specs.Arguments.{unless, bad_hierarchy, wrong_page, wrong_frame, hierarchy_in, level_of_page_size, starts_page, position_of}
+use Rattle.x86_64_c.specs.Arguments.{unless, bad_hierarchy, wrong_ends, wrong_page, wrong_frame, hierarchy_in, level_of_page_size, position_of}
 use Rattle.x86_64_c.specs.Status as status
 use Rattle.x86_64_c.specs.Status.{ok}
 use Rattle.x86_64_c.specs.declared.arguments.Hierarchy.{Hierarchy as Given}
@@ -29,10 +29,6 @@ bad_map L request = option_or (wrong_page L request.page) (wrong_frame request.p
 abbrev pub map_asked : (L : ℕ) → MapRequest → Call
 map_asked L request = MapToWithTableFlags (level_of_page_size request.page.size) (position_of L request.page.start) request.frame request.flags request.parent_flags
 
--- What is wrong with the first or the last 4KiB page of a range, with L levels.
-abbrev pub wrong_range : (L first last : ℕ) → Option ℕ
-wrong_range L first last = unless (starts_page L 4096 first && starts_page L 4096 last) status.bad_page
-
 -- The clean up of the 4KiB pages from the first to the last, inclusive, with L levels.
 abbrev pub clean_up_call : (L first last : ℕ) → Call
 clean_up_call L first last = CleanUp (position_of L first) (position_of L last + 0xfff)
@@ -43,7 +39,7 @@ to_map request = record { call = λ L. map_asked L request; wrong = λ L. bad_ma
 
 -- The request to clean up the 4KiB pages from the first to the last, inclusive.
 abbrev pub to_clean_up : (first last : ℕ) → Request
-to_clean_up first last = record { call = λ L. clean_up_call L first last; wrong = λ L. wrong_range L first last }
+to_clean_up first last = record { call = λ L. clean_up_call L first last; wrong = λ L. wrong_ends L first last }
 
 -- ---- what a caller lends
 

@@ -1,9 +1,10 @@
 pub mod BelowRootLaws
 pub mod DropLaws
-pub mod OrNothing
 pub mod Operations
+pub mod OrNothing
 pub mod PoolLaws
 pub mod Pools
 pub mod PreparationSteps
 pub mod RangeMaps
+pub mod RangeTasks
 pub mod Spaces

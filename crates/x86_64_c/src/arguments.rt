@@ -7,6 +7,7 @@ use crate::status;
 use x86_64::structures::paging::mapper::PageTableFrameMapping;
 use x86_64::structures::paging::{PageIn, PageSize, PhysFrame, Size1GiB, Size2MiB, Size4KiB};
 use x86_64::{FrameSegment, LevelCount, PhysAddr, VirtAddrIn};
+use x86_64_page::range::BlockRangeInclusive;
 
 /// A hierarchy of page tables in an array of tables.
 #[derive(Drop)]
@@ -144,4 +145,19 @@ pub fn page_at<S: PageSize, L: LevelCount>(start: u64) -> Result<PageIn<S, L>, u
         Ok(page) => Ok(page),
         Err(_) => Err(status::BAD_PAGE),
     }
+}
+
+/// Returns the range of pages from one address to another, or the status that says that there is none.
+pub fn range_at<L: LevelCount>(
+    first: u64,
+    last: u64,
+) -> Result<BlockRangeInclusive<PageIn<Size4KiB, L>>, u32>
+    ensures first { IfOk result (λ range. range.start ≡ given.position_of L.LEVELS first) }
+    ensures last { IfOk result (λ range. range.end ≡ given.position_of L.LEVELS last) }
+    ensures good { IfOk result (λ _. given.wrong_ends L.LEVELS first last ≡ None) }
+    ensures bad { IfErr result (λ status. given.wrong_ends L.LEVELS first last ≡ Some status) }
+{
+    let start = page_at(first)?;
+    let end = page_at(last)?;
+    Ok(BlockRangeInclusive { start, end })
 }

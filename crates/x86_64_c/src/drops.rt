@@ -4,15 +4,15 @@ ghost use Rattle.x86_64_c.specs.Drops as drops;
 ghost use Rattle.x86_64_c.specs.PoolCalls as calls;
 ghost use Rattle.x86_64_c.specs.WordRanges as words;
 
-use crate::arguments::{Hierarchy, Located, page_at};
-use crate::operation::{Operation, enter};
-use crate::pool::{PoolStep, Stepped, with_pool};
-use crate::status;
+use crate::arguments::{Hierarchy, Located};
+use crate::operation::enter;
+use crate::pool::ranges::{RangeOperation, RangeStep};
 use crate::word_ranges::status_of;
 use x86_64::structures::paging::mapper::PageTableFrameMapping;
 use x86_64::structures::paging::{PageIn, PageTable, Size4KiB};
 use x86_64::{FrameStore, LevelCount, OwnFrames, TableMemory};
 use x86_64_live::{RangeEnd, drop_range};
+use x86_64_page::range::BlockRangeInclusive;
 
 /// Takes all pages of a range away, as `x64_take_range` does, but tells none, and then frees the empty tables of the range, as
 /// `x64_clean_up` does. Their frames go to the top of the pool.
@@ -37,11 +37,12 @@ pub extern "C" fn x64_drop(
     ensures { drops.ExecutesDrop own hierarchy.now (calls.loan tables.old pool.old free_count.old)
         first last next.old result (calls.loan tables.new pool.new free_count.new) next.new }
 {
-    let drop = RangeDrop {
+    let drop = RangeOperation {
         first,
         last,
         free_count: *free_count,
         own: OwnFrames::of(),
+        step: PageDrop,
     };
     let dropped = match enter(hierarchy, tables, pool, &drop) {
         Ok(dropped) => dropped,
@@ -54,15 +55,6 @@ pub extern "C" fn x64_drop(
     dropped.out.status
 }
 
-/// The drop of the pages from one to another, with the number of free frames of the pool in the operation's array, and its own frames.
-#[derive(Drop)]
-pub struct RangeDrop {
-    first: u64,
-    last: u64,
-    free_count: usize,
-    own: OwnFrames,
-}
-
 /// What is told of a range that is dropped.
 #[derive(Clone, Copy)]
 pub struct Dropped {
@@ -72,77 +64,31 @@ pub struct Dropped {
     pub next: Option<u64>,
 }
 
-impl Operation for RangeDrop {
-    ghost use Rattle.x86_64_c.specs.Arguments.{position_of};
-    ghost use Rattle.x86_64_c.specs.Drops.{DropsPages};
-    ghost use Rattle.x86_64_c.specs.PoolCalls.{bad_pool, wrong_range};
-    ghost use Rattle.x86_64_c.specs.private.Pools.{FitsIn, Leaves};
-
-    type Out = Stepped<Dropped>;
-
-    type Entry = u64;
-
-    ghost wrong = { λ new levels tables room.
-        bad_pool new.free_count room (wrong_range levels new.first new.last) };
-
-    ghost may = { λ new h array. FitsIn new.own.frames h array new.free_count };
-
-    ghost does = { λ new h array after left dropped.
-        Leaves new.own.frames array new.free_count left dropped.free_count (λ pool rest.
-        DropsPages h pool (position_of h.layout.levels new.first) (position_of h.layout.levels new.last)
-        after rest dropped.out.status dropped.out.next) };
-
-    fn execute<L: LevelCount, T: TableMemory, P: PageTableFrameMapping + Copy>(
-        &self,
-        memory: &mut T,
-        located: Located<P>,
-        array: &mut [u64],
-    ) -> Result<Stepped<Dropped>, u32> {
-        if array.len() < self.free_count {
-            return Err(status::BAD_ARRAY);
-        }
-        let pages = PagesDropped::<L> {
-            first: page_at(self.first)?,
-            last: page_at(self.last)?,
-        };
-        Ok(with_pool(memory, located, &self.own, array, self.free_count, &pages))
-    }
-}
-
-/// The pages that are dropped.
+/// The drop of the pages of a range, and of the tables that are empty then.
 #[derive(Clone, Copy)]
-pub struct PagesDropped<L: LevelCount> {
-    first: PageIn<Size4KiB, L>,
-    last: PageIn<Size4KiB, L>,
-}
+pub struct PageDrop;
 
-impl<L: LevelCount> PoolStep<L> for PagesDropped<L> {
-    ghost use Rattle.std.specs.Prelude.{false};
+impl RangeStep for PageDrop {
     ghost use Rattle.x86_64_c.specs.Drops.{DropsPages};
     ghost use Rattle.x86_64_c.specs.private.DropLaws.{own_drops};
 
     type Out = Dropped;
 
-    ghost gives_root = { λ _. false };
+    ghost does = { λ h pool first last after rest dropped.
+        DropsPages h pool first last after rest dropped.status dropped.next };
 
-    ghost refused = { λ _. false };
-
-    ghost does = { λ pages h pool after rest dropped.
-        DropsPages h pool pages.first pages.last after rest dropped.status dropped.next };
-
-    fn take<T: TableMemory, P: PageTableFrameMapping + Copy, F: FrameStore>(
+    fn take<L: LevelCount, T: TableMemory, P: PageTableFrameMapping + Copy, F: FrameStore>(
         &self,
         memory: &mut T,
         located: Located<P>,
+        range: BlockRangeInclusive<PageIn<Size4KiB, L>>,
         frames: &mut F,
-        _free_count: usize,
     ) -> Dropped {
-        let range = PageIn::range_inclusive(self.first, self.last);
         let end = drop_range(memory, located.mapping, located.root, range, frames);
         Dropped::of(&end)
     }
 
-    ghost own_frames = { λ pages own array count serves same h after free rest dropped.
+    ghost own_frames = { λ own array count serves same h after free rest first last dropped.
         own_drops own array count same h after free rest _ _ _ _ };
 }
 

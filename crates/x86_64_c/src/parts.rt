@@ -1,7 +1,7 @@
 //! Parts of larger pages.
 ghost use Rattle.std.specs.Prelude.{◌≡◌, ◌-◌, ◌↔◌, ℕ, get_or, IsTrue, Some, None};
 ghost use Rattle.x86_64_c.specs.Parts as statuses;
-ghost use Rattle.x86_64_live.specs.Parts.{joined, parts_of, split_refusal, MapsParts};
+ghost use Rattle.x86_64_live.specs.Parts.{page_of_parts, parts_of, split_refusal, MapsParts};
 ghost use Rattle.x86_64_live.specs.declared.parts.SplitError.{SplitError as Refusal};
 ghost use Rattle.x86_64_model.specs.Laws.Splits.{AllowsAll, AreParts};
 
@@ -53,7 +53,7 @@ pub extern "C" fn x64_are_parts(level: u64, word: u64, entry: u64, table: &PageT
 /// part has it.
 #[unsafe(no_mangle)]
 pub extern "C" fn x64_joined_word(word: u64, table: &PageTable) -> u64
-    ensures { result ≡ joined word table.now }
+    ensures { result ≡ page_of_parts word table.now }
 {
     joined_word(word, table)
 }

@@ -9,8 +9,9 @@ ghost use Rattle.x86_64_tables.specs.MapperAnswers.{map_refusal};
 
 mod below_root;
 
-use crate::arguments::{AnyPage, Hierarchy, Located, MapRequest, frame_at, page_at, page_of};
+use crate::arguments::{AnyPage, Hierarchy, Located, MapRequest, frame_at, page_of};
 use crate::operation::{Operation, enter};
+use crate::pool::ranges::{RangeOperation, RangeStep};
 use crate::pool::{PoolStep, Stepped, with_pool};
 use crate::status::{self, map_status};
 use bitflags::Flags;
@@ -22,6 +23,7 @@ use x86_64::structures::paging::{
 };
 use x86_64::{FrameStore, LevelCount, OwnFrames, TableMemory};
 use x86_64_mappers::calls as mapper_calls;
+use x86_64_page::range::BlockRangeInclusive;
 
 // ---- maps
 
@@ -228,11 +230,12 @@ pub extern "C" fn x64_clean_up(
         (calls.to_clean_up first_page last_page) result
         (calls.loan tables.new pool.new free_count.new) }
 {
-    let clean_up = CleanUp {
-        first_page,
-        last_page,
+    let clean_up = RangeOperation {
+        first: first_page,
+        last: last_page,
         free_count: *free_count,
         own: OwnFrames::of(),
+        step: EmptyTables,
     };
     match enter(hierarchy, tables, pool, &clean_up) {
         Ok(cleaned) => {
@@ -243,89 +246,33 @@ pub extern "C" fn x64_clean_up(
     }
 }
 
-/// The clean up of the pages from the first to the last, with the number of free frames of the pool in the operation's array, and its
-/// own frames.
-#[derive(Drop)]
-pub struct CleanUp {
-    first_page: u64,
-    last_page: u64,
-    free_count: usize,
-    own: OwnFrames,
-}
-
-impl Operation for CleanUp {
-    ghost use Rattle.x86_64_c.specs.PoolCalls.{RunsCall, bad_pool, wrong_range, clean_up_call};
-    ghost use Rattle.x86_64_c.specs.private.Pools.{FitsIn, Leaves};
-
-    type Out = Stepped<u32>;
-
-    type Entry = u64;
-
-    ghost wrong = { λ new levels tables room.
-        bad_pool new.free_count room (wrong_range levels new.first_page new.last_page) };
-
-    ghost may = { λ new h array. FitsIn new.own.frames h array new.free_count };
-
-    ghost does = { λ new h array after left cleaned.
-        Leaves new.own.frames array new.free_count left cleaned.free_count (λ pool rest.
-        RunsCall h pool (clean_up_call h.layout.levels new.first_page new.last_page) after rest
-        cleaned.out) };
-
-    fn execute<L: LevelCount, T: TableMemory, P: PageTableFrameMapping + Copy>(
-        &self,
-        memory: &mut T,
-        located: Located<P>,
-        array: &mut [u64],
-    ) -> Result<Stepped<u32>, u32> {
-        if array.len() < self.free_count {
-            return Err(status::BAD_ARRAY);
-        }
-        let pages = PagesTo::<L> {
-            first: page_at(self.first_page)?,
-            last: page_at(self.last_page)?,
-        };
-        Ok(with_pool(memory, located, &self.own, array, self.free_count, &pages))
-    }
-}
-
-/// The pages whose tables are cleaned up.
+/// The clean up of a range, which frees its empty tables.
 #[derive(Clone, Copy)]
-pub struct PagesTo<L: LevelCount> {
-    first: PageIn<Size4KiB, L>,
-    last: PageIn<Size4KiB, L>,
-}
+pub struct EmptyTables;
 
-impl<L: LevelCount> PoolStep<L> for PagesTo<L> {
-    ghost use Rattle.std.specs.Prelude.{◌+◌, false};
+impl RangeStep for EmptyTables {
+    ghost use Rattle.std.specs.Prelude.{◌+◌};
     ghost use Rattle.x86_64_c.specs.PoolCalls.{RunsCall};
     ghost use Rattle.x86_64_c.specs.private.PoolLaws.{own_runs};
     ghost use Rattle.x86_64_model.specs.Call as machine;
 
     type Out = u32;
 
-    ghost gives_root = { λ _. false };
+    ghost does = { λ h pool first last after rest status.
+        RunsCall h pool (machine.CleanUp first (last + 0xfff)) after rest status };
 
-    ghost refused = { λ _. false };
-
-    ghost does = { λ pages h pool after rest status.
-        RunsCall h pool (machine.CleanUp pages.first (pages.last + 0xfff)) after rest status };
-
-    fn take<T: TableMemory, P: PageTableFrameMapping + Copy, F: FrameStore>(
+    fn take<L: LevelCount, T: TableMemory, P: PageTableFrameMapping + Copy, F: FrameStore>(
         &self,
         memory: &mut T,
         located: Located<P>,
+        range: BlockRangeInclusive<PageIn<Size4KiB, L>>,
         frames: &mut F,
-        _free_count: usize,
     ) -> u32 {
         let mut mapper = MappedPageTableIn::<_, L, T>::new(memory, located.root, located.mapping);
-        mapper_calls::clean_up_range(
-            &mut mapper,
-            PageIn::range_inclusive(self.first, self.last),
-            frames,
-        );
+        mapper_calls::clean_up_range(&mut mapper, range, frames);
         status::OK
     }
 
-    ghost own_frames = { λ pages own array count serves same h after free rest status.
+    ghost own_frames = { λ own array count serves same h after free rest first last status.
         own_runs own array count same h after free rest _ status };
 }

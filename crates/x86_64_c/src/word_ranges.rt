@@ -6,16 +6,15 @@ ghost use Rattle.x86_64_model.specs.Entry.{present, used};
 ghost use Rattle.x86_64_model.specs.Hierarchy.{Valid};
 ghost use Rattle.x86_64_model.specs.Live.{by_masks};
 
-use crate::arguments::{Hierarchy, Located, page_at};
+use crate::arguments::{Hierarchy, Located, range_at};
 use crate::operation::{Operation, enter};
 use crate::status;
 use x86_64::structures::paging::mapper::PageTableFrameMapping;
-use x86_64::structures::paging::{PageIn, PageTable, Size4KiB};
+use x86_64::structures::paging::PageTable;
 use x86_64::{LevelCount, TableMemory};
 use x86_64_live::{
     PageWord, RangeEnd, RangeSeen, RangeStop, are_flag_masks, change_range, list_range, take_range,
 };
-use x86_64_page::range::BlockRangeInclusive;
 
 /// Writes the pages of a range to an array, with their words: all pages from that of 4KiB at `first` to that at `last`, of all sizes,
 /// present or not, and their number.
@@ -44,7 +43,12 @@ pub extern "C" fn x64_list_range(
         pages.old pages.new result count.new next.old next.new }
     ensures tables { tables.new ≡ tables.old }
 {
-    let told = enter(hierarchy, tables, pages, &PageList { first, last });
+    let list = WordRange {
+        first,
+        last,
+        task: RangeTask::Tell,
+    };
+    let told = enter(hierarchy, tables, pages, &list);
     tell(told, count, next)
 }
 
@@ -70,10 +74,15 @@ pub extern "C" fn x64_take_range(
         → (result ≡ status) × (tables.new ≡ tables.old)
         × (pages.new ≡ pages.old) × (count.new ≡ count.old) × (next.new ≡ next.old) }
     ensures takes { words.bad_word_range hierarchy.now (length tables.old) first last ≡ None
-        → words.ChangesRange (given.hierarchy_in hierarchy.now tables.old) used (λ _. 0) first last
+        → words.ListsAndExchanges (given.hierarchy_in hierarchy.now tables.old) used (λ _. 0) first last
         (given.hierarchy_in hierarchy.now tables.new) pages.old pages.new result count.new next.old next.new }
 {
-    let told = enter(hierarchy, tables, pages, &PageTake { first, last });
+    let take = WordRange {
+        first,
+        last,
+        task: RangeTask::Take,
+    };
+    let told = enter(hierarchy, tables, pages, &take);
     tell(told, count, next)
 }
 
@@ -102,15 +111,14 @@ pub extern "C" fn x64_change_range(
         → (result ≡ status) × (tables.new ≡ tables.old)
         × (pages.new ≡ pages.old) × (count.new ≡ count.old) × (next.new ≡ next.old) }
     ensures changes { words.bad_word_change hierarchy.now (length tables.old) first last keep set ≡ None
-        → words.ChangesRange (given.hierarchy_in hierarchy.now tables.old) present (by_masks keep set)
+        → words.ListsAndExchanges (given.hierarchy_in hierarchy.now tables.old) present (by_masks keep set)
         first last (given.hierarchy_in hierarchy.now tables.new)
         pages.old pages.new result count.new next.old next.new }
 {
-    let change = FlagChange {
+    let change = WordRange {
         first,
         last,
-        keep,
-        set,
+        task: RangeTask::Change(keep, set),
     };
     let told = enter(hierarchy, tables, pages, &change);
     tell(told, count, next)
@@ -171,46 +179,39 @@ fn tell(told: Result<Ended, u32>, count: &mut usize, next: &mut u64) -> u32
     ended.status
 }
 
-/// Returns the range of pages from one address to another, or the status that says that there is none.
-fn range_of<L: LevelCount>(
-    first: u64,
-    last: u64,
-) -> Result<BlockRangeInclusive<PageIn<Size4KiB, L>>, u32>
-    ensures first { IfOk result (λ range. range.start ≡ given.position_of L.LEVELS first) }
-    ensures last { IfOk result (λ range. range.end ≡ given.position_of L.LEVELS last) }
-    ensures good { IfOk result (λ _. words.wrong_ends L.LEVELS first last ≡ None) }
-    ensures bad { IfErr result (λ status. words.wrong_ends L.LEVELS first last ≡ Some status) }
-{
-    let start = page_at(first)?;
-    let end = page_at(last)?;
-    Ok(BlockRangeInclusive { start, end })
-}
-
-/// The list of the pages of a range.
+/// What is done with the pages of a range, beside telling them.
 #[derive(Clone, Copy)]
-pub struct PageList {
-    first: u64,
-    last: u64,
+pub enum RangeTask {
+    /// Nothing.
+    Tell,
+    /// Their entries become 0.
+    Take,
+    /// Their words keep the first bits, and get the second ones.
+    Change(u64, u64),
 }
 
-impl Operation for PageList {
-    ghost use Rattle.std.specs.Prelude.{◌≡◌};
-    ghost use Rattle.x86_64_c.specs.WordRanges.{wrong_ends, TellsPages};
-    ghost use Rattle.x86_64_live.specs.declared.ranges.RangeEnd.{RangeEnd};
-    ghost use Rattle.x86_64_model.specs.Entry.{used};
+/// A task on the pages of a range.
+#[derive(Clone, Copy)]
+pub struct WordRange {
+    first: u64,
+    last: u64,
+    task: RangeTask,
+}
+
+impl Operation for WordRange {
+    ghost use Rattle.x86_64_c.specs.private.RangeTasks.{wrong_task, DoesTask};
     ghost use Rattle.x86_64_model.specs.Hierarchy.{Valid};
 
     type Out = Ended;
 
     type Entry = PageWord;
 
-    ghost wrong = { λ new levels tables room. wrong_ends levels new.first new.last };
+    ghost wrong = { λ new levels tables room. wrong_task levels new.first new.last new.task };
 
     ghost may = { λ new h array. Valid h };
 
-    ghost does = { λ new h array after left ended. (after.memory ≡ h.memory)
-        × ((end : RangeEnd (Unit {0})) × TellsPages h used new.first new.last array left end
-        ended.status ended.count ended.next) };
+    ghost does = { λ new h array after left ended.
+        DoesTask new.task h new.first new.last array left after.memory ended };
 
     fn execute<L: LevelCount, T: TableMemory, P: PageTableFrameMapping + Copy>(
         &self,
@@ -218,96 +219,24 @@ impl Operation for PageList {
         located: Located<P>,
         array: &mut [PageWord],
     ) -> Result<Ended, u32> {
-        let range = range_of::<L>(self.first, self.last)?;
-        let seen = list_range(memory, &located.mapping, located.root, range, array);
-        Ok(Ended::of(&seen))
-    }
-}
-
-/// The take of the pages of a range.
-#[derive(Clone, Copy)]
-pub struct PageTake {
-    first: u64,
-    last: u64,
-}
-
-impl Operation for PageTake {
-    ghost use Rattle.x86_64_c.specs.WordRanges.{wrong_ends, ExchangesRange, TellsPages};
-    ghost use Rattle.x86_64_live.specs.declared.ranges.RangeEnd.{RangeEnd};
-    ghost use Rattle.x86_64_model.specs.Entry.{used};
-    ghost use Rattle.x86_64_model.specs.Hierarchy.{Valid};
-
-    type Out = Ended;
-
-    type Entry = PageWord;
-
-    ghost wrong = { λ new levels tables room. wrong_ends levels new.first new.last };
-
-    ghost may = { λ new h array. Valid h };
-
-    ghost does = { λ new h array after left ended. (end : RangeEnd (Unit {0}))
-        × TellsPages h used new.first new.last array left end ended.status ended.count ended.next
-        × ExchangesRange h used (λ _. 0) new.first new.last end after.memory };
-
-    fn execute<L: LevelCount, T: TableMemory, P: PageTableFrameMapping + Copy>(
-        &self,
-        memory: &mut T,
-        located: Located<P>,
-        array: &mut [PageWord],
-    ) -> Result<Ended, u32> {
-        let range = range_of::<L>(self.first, self.last)?;
-        let seen = take_range(memory, &located.mapping, located.root, range, array);
-        Ok(Ended::of(&seen))
-    }
-}
-
-/// The change of the flags of the pages of a range.
-#[derive(Clone, Copy)]
-pub struct FlagChange {
-    first: u64,
-    last: u64,
-    keep: u64,
-    set: u64,
-}
-
-impl Operation for FlagChange {
-    ghost use Rattle.x86_64_c.specs.WordRanges.{wrong_change, ExchangesRange, TellsPages};
-    ghost use Rattle.x86_64_live.specs.declared.ranges.RangeEnd.{RangeEnd};
-    ghost use Rattle.x86_64_model.specs.Entry.{present};
-    ghost use Rattle.x86_64_model.specs.Hierarchy.{Valid};
-    ghost use Rattle.x86_64_model.specs.Live.{by_masks};
-
-    type Out = Ended;
-
-    type Entry = PageWord;
-
-    ghost wrong = { λ new levels tables room. wrong_change levels new.first new.last new.keep new.set };
-
-    ghost may = { λ new h array. Valid h };
-
-    ghost does = { λ new h array after left ended. (end : RangeEnd (Unit {0}))
-        × TellsPages h present new.first new.last array left end ended.status ended.count ended.next
-        × ExchangesRange h present (by_masks new.keep new.set) new.first new.last end after.memory };
-
-    fn execute<L: LevelCount, T: TableMemory, P: PageTableFrameMapping + Copy>(
-        &self,
-        memory: &mut T,
-        located: Located<P>,
-        array: &mut [PageWord],
-    ) -> Result<Ended, u32> {
-        let range = range_of::<L>(self.first, self.last)?;
-        if !are_flag_masks(self.keep, self.set) {
-            return Err(status::NOT_ALLOWED);
+        let range = range_at::<L>(self.first, self.last)?;
+        let Located { root, mapping } = located;
+        match self.task {
+            RangeTask::Tell => {
+                let seen = list_range(memory, &mapping, root, range, array);
+                Ok(Ended::of(&seen))
+            }
+            RangeTask::Take => {
+                let seen = take_range(memory, &mapping, root, range, array);
+                Ok(Ended::of(&seen))
+            }
+            RangeTask::Change(keep, set) => {
+                if !are_flag_masks(keep, set) {
+                    return Err(status::NOT_ALLOWED);
+                }
+                let seen = change_range(memory, &mapping, root, range, keep, set, array);
+                Ok(Ended::of(&seen))
+            }
         }
-        let seen = change_range(
-            memory,
-            &located.mapping,
-            located.root,
-            range,
-            self.keep,
-            self.set,
-            array,
-        );
-        Ok(Ended::of(&seen))
     }
 }

@@ -10,4 +10,5 @@ pub mod PageSpots
 pub mod PagesBetween
 pub mod PagesChanged
 pub mod PagesListed
+pub mod RangeState
 pub mod RangesDropped

@@ -6,7 +6,7 @@ use Rattle.std.proofs.lemmas.List.FromFn.{get_or-map-range_with_len}
 use Rattle.std.proofs.lemmas.Option.{none-some}
 use Rattle.std.specs.List.{range_with_len}
 use Rattle.std.specs.Int.Bits.{or_add_and}
-use Rattle.x86_64_live.specs.Parts.{part_of, parts_of, kind_bits, MapsPart, MapsParts, split_refusal}
+use Rattle.x86_64_live.specs.Parts.{part_of, parts_of, part_bits, IsPartOf, MapsParts, split_refusal}
 use Rattle.x86_64_live.specs.declared.parts.SplitError.TheVariants.{NoSuchLevel, PageNotMapped, HasTable, InvalidFrameAddress}
 use Rattle.x86_64_model.specs.Access.{low_bits}
 use Rattle.x86_64_model.specs.Entry.{used, has, present, writable, user, huge, no_execute, address, flags}
@@ -107,21 +107,21 @@ large_part e j is_page small = record {
 -- ---- words that map the parts
 
 -- what a word has that agrees with another one on the kind
-kind_has : (p w f : ℕ) → bit_and kind_bits f ≡ f → bit_and p kind_bits ≡ bit_and w kind_bits → has p f ≡ has w f
+kind_has : (p w f : ℕ) → bit_and part_bits f ≡ f → bit_and p part_bits ≡ bit_and w part_bits → has p f ≡ has w f
 unfolding has
 kind_has p w f within same =
-    ap (λ x. x == f) (sym (ap (bit_and p) within) ∙ sym (and_assoc f p kind_bits) ∙ ap (λ x. bit_and x f) same ∙ and_assoc f w kind_bits ∙ ap (bit_and w) within)
+    ap (λ x. x == f) (sym (ap (bit_and p) within) ∙ sym (and_assoc f p part_bits) ∙ ap (λ x. bit_and x f) same ∙ and_assoc f w part_bits ∙ ap (bit_and w) within)
 
-kind_address : (p w : ℕ) → bit_and p kind_bits ≡ bit_and w kind_bits → address p ≡ address w
+kind_address : (p w : ℕ) → bit_and p part_bits ≡ bit_and w part_bits → address p ≡ address w
 unfolding address
 kind_address p w same =
-    sym (and_assoc 0x000f_ffff_ffff_f000 p kind_bits) ∙ ap (λ x. bit_and x 0x000f_ffff_ffff_f000) same ∙ and_assoc 0x000f_ffff_ffff_f000 w kind_bits
+    sym (and_assoc 0x000f_ffff_ffff_f000 p part_bits) ∙ ap (λ x. bit_and x 0x000f_ffff_ffff_f000) same ∙ and_assoc 0x000f_ffff_ffff_f000 w part_bits
 
 -- words that map the parts are parts, as the laws of splits say it
 parts_like : (level e t : ℕ) (part : ℕ → ℕ)
     → ((j : ℕ) → j < 512 → IsPartWord level e (page_start (suc level) e + j * span level) (part_of (suc level) e j))
-    → ((j : ℕ) → j < 512 → MapsPart (suc level) e t j (part j))
-    → ((p w : ℕ) → bit_and p kind_bits ≡ bit_and w kind_bits → maps_page level p ≡ maps_page level w)
+    → ((j : ℕ) → j < 512 → IsPartOf (suc level) e t j (part j))
+    → ((p w : ℕ) → bit_and p part_bits ≡ bit_and w part_bits → maps_page level p ≡ maps_page level w)
     → AreParts level e t part
 parts_like level e t part is maps pages = record {
   pages = λ j small. pages (part j) (part_of (suc level) e j) (maps j small).kind ∙ (is j small).pages;
@@ -152,7 +152,7 @@ by_levels P level e page small large =
 
 pub are_parts : (level e t : ℕ) (words : List ℕ) → MapsParts level e t words → AreParts (level - 1) e t (λ j. get_or words j 0)
 are_parts level e t words maps =
-    by_levels (λ level. ((j : ℕ) → j < 512 → MapsPart level e t j (get_or words j 0)) → AreParts (level - 1) e t (λ j. get_or words j 0)) level e maps.page
+    by_levels (λ level. ((j : ℕ) → j < 512 → IsPartOf level e t j (get_or words j 0)) → AreParts (level - 1) e t (λ j. get_or words j 0)) level e maps.page
     (λ _ parts. parts_like 1 e t (λ j. get_or words j 0) (λ j small. small_part e j small) parts (λ p w same. refl))
     (λ is_page parts. parts_like 2 e t (λ j. get_or words j 0) (λ j small. large_part e j is_page small) parts
     (λ p w same. ap (λ b. b && true) (kind_has p w 0x80 refl same)))
@@ -173,7 +173,7 @@ pub maps_parts : (level e t : ℕ) (words : List ℕ) → split_refusal level e 
     → MapsParts level e t words
 maps_parts level e t words page all is = record {
   page = page;
-  parts = λ j small. subst (MapsPart level e t j) (sym (is j small)) (record {
+  parts = λ j small. subst (IsPartOf level e t j) (sym (is j small)) (record {
     kind = refl;
     rights = by_levels (λ level. granted (granted every_right t) (part_of level e j) ≡ granted every_right e) level e page
         (λ _. grants 1 e (page_start 2 e + j * span 1) t (part_of 2 e j) all (small_part e j small))

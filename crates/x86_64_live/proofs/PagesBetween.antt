@@ -5,7 +5,7 @@ use Rattle.std.proofs.lemmas.Bool.{cases_eq, cases_lt, ne_eqb}
 use Rattle.std.proofs.lemmas.Grind.{flat_map-append}
 use Rattle.std.proofs.Math.Bool.{and-false}
 use Rattle.std.proofs.Math.Nat.{div-add-mod, mul_comm}
-use Rattle.x86_64_live.specs.PageRanges.{HasNoPage, PageEntry, AllWhole, is_page, page_at, pages_at, pages_between}
+use Rattle.x86_64_live.specs.PageRanges.{HasNoPage, PageEntry, AllWhole, is_page, page_entry_at, pages_at, page_entries}
 use Rattle.x86_64_live.specs.private.RangeSteps.{IsSpot, leads_down, wanted_by}
 use Rattle.x86_64_live.specs.declared.ranges.search.Spot.{Spot}
 use Rattle.x86_64_live.specs.declared.ranges.search.Wanted.{Wanted}
@@ -48,21 +48,21 @@ starts_split (suc a) first b =
 module _ (L : ℕ) (wanted : ℕ → Bool) (M : PathMap) where
   -- ---- parts
 
-  pub between_split : (first p q : ℕ) → first ≤ p → p ≤ q → first % 4096 ≡ 0 → p % 4096 ≡ 0 → pages_between L wanted M first q ≡ pages_between L wanted M first p ++ pages_between L wanted M p q
-  unfolding pages_between
+  pub between_split : (first p q : ℕ) → first ≤ p → p ≤ q → first % 4096 ≡ 0 → p % 4096 ≡ 0 → page_entries L wanted M first q ≡ page_entries L wanted M first p ++ page_entries L wanted M p q
+  unfolding page_entries
   between_split first p q from to whole aligned =
       ap (λ n. flat_map (pages_at L wanted M) (starts_from 4096 first n)) (let e : (q - first) / 4096 ≡ (p - first) / 4096 + (q - p) / 4096 = omega (arith, from, to, whole, aligned) in e)
       ∙ ap (flat_map (pages_at L wanted M)) (starts_split ((p - first) / 4096) first ((q - p) / 4096)
       ∙ ap (λ x. starts_from 4096 first ((p - first) / 4096) ++ starts_from 4096 x ((q - p) / 4096)) (let e : first + (p - first) / 4096 * 4096 ≡ p = omega (arith, from, whole, aligned) in e))
       ∙ flat_map-append (pages_at L wanted M) (exclusive_range 4096 first p) (exclusive_range 4096 p q)
 
-  pub between_none : (p : ℕ) → pages_between L wanted M p p ≡ []
-  unfolding pages_between
+  pub between_none : (p : ℕ) → page_entries L wanted M p p ≡ []
+  unfolding page_entries
   between_none p = ap (λ n. flat_map (pages_at L wanted M) (starts_from 4096 p n)) (let e : (p - p) / 4096 ≡ 0 = omega arith in e)
 
   -- if the end comes first
-  pub between_past : (p q : ℕ) → q ≤ p → pages_between L wanted M p q ≡ []
-  unfolding pages_between
+  pub between_past : (p q : ℕ) → q ≤ p → page_entries L wanted M p q ≡ []
+  unfolding page_entries
   between_past p q order = ap (λ n. flat_map (pages_at L wanted M) (starts_from 4096 p n)) (let e : (q - p) / 4096 ≡ 0 = omega (arith, order) in e)
 
   empty_starts : (n p q : ℕ) → p + n * 4096 ≤ q → ((x : ℕ) → p ≤ x → x < q → pages_at L wanted M x ≡ []) → flat_map (pages_at L wanted M) (starts_from 4096 p n) ≡ []
@@ -72,19 +72,19 @@ module _ (L : ℕ) (wanted : ℕ → Bool) (M : PathMap) where
       ∙ ap (λ xs. xs ++ flat_map (pages_at L wanted M) (starts_from 4096 (p + 4096) n)) (none p (omega arith) (omega (arith, most)))
       ∙ empty_starts n (p + 4096) q (omega (arith, most)) (λ x from to. none x (omega (arith, from)) to)
 
-  empty_between : (p q : ℕ) → p ≤ q → ((x : ℕ) → p ≤ x → x < q → pages_at L wanted M x ≡ []) → pages_between L wanted M p q ≡ []
-  unfolding pages_between
+  empty_between : (p q : ℕ) → p ≤ q → ((x : ℕ) → p ≤ x → x < q → pages_at L wanted M x ≡ []) → page_entries L wanted M p q ≡ []
+  unfolding page_entries
   empty_between p q order none = empty_starts ((q - p) / 4096) p q (omega (arith, order)) none
 
-  no_page_at : (x level : ℕ) → ((x % span level == 0) && is_page wanted level (entry M (path_at L level x))) ≡ false → page_at L wanted M x level ≡ None
+  no_page_at : (x level : ℕ) → ((x % span level == 0) && is_page wanted level (entry M (path_at L level x))) ≡ false → page_entry_at L wanted M x level ≡ None
   no_page_at x level none = ap (λ b. cond b (Some (record { start = x; level = level; word = entry M (path_at L level x) })) None) none
 
-  none_of_three : (x : ℕ) → ((level : ℕ) → 1 ≤ level → level ≤ 3 → page_at L wanted M x level ≡ None) → pages_at L wanted M x ≡ []
-  none_of_three x none = ap (λ o. cons_option o (cons_option (page_at L wanted M x 2) (cons_option (page_at L wanted M x 3) []))) (none 1 (omega arith) (omega arith))
-      ∙ ap (λ o. cons_option o (cons_option (page_at L wanted M x 3) [])) (none 2 (omega arith) (omega arith)) ∙ ap (λ o. cons_option o []) (none 3 (omega arith) (omega arith))
+  none_of_three : (x : ℕ) → ((level : ℕ) → 1 ≤ level → level ≤ 3 → page_entry_at L wanted M x level ≡ None) → pages_at L wanted M x ≡ []
+  none_of_three x none = ap (λ o. cons_option o (cons_option (page_entry_at L wanted M x 2) (cons_option (page_entry_at L wanted M x 3) []))) (none 1 (omega arith) (omega arith))
+      ∙ ap (λ o. cons_option o (cons_option (page_entry_at L wanted M x 3) [])) (none 2 (omega arith) (omega arith)) ∙ ap (λ o. cons_option o []) (none 3 (omega arith) (omega arith))
 
   -- where no position is one of a page
-  pub none_between : (p q : ℕ) → p ≤ q → HasNoPage L wanted M p q → pages_between L wanted M p q ≡ []
+  pub none_between : (p q : ℕ) → p ≤ q → HasNoPage L wanted M p q → page_entries L wanted M p q ≡ []
   none_between p q order none = empty_between p q order (λ x from to. none_of_three x (λ level low high.
       no_page_at x level (ap (λ b. (x % span level == 0) && b) (none x level from to low high) ∙ and-false (x % span level == 0))))
 
@@ -98,13 +98,13 @@ module _ (L : ℕ) (wanted : ℕ → Bool) (M : PathMap) where
       (λ least. let in_second = second x level least to low high page in (omega (arith, in_second.0, left), in_second.1))
       (cases_lt x q)
 
-  one_of_three : (x k : ℕ) (e : PageEntry) → 1 ≤ k → k ≤ 3 → page_at L wanted M x k ≡ Some e → ((level : ℕ) → 1 ≤ level → level ≤ 3 → level ≢ k → page_at L wanted M x level ≡ None) → pages_at L wanted M x ≡ e ∷ []
+  one_of_three : (x k : ℕ) (e : PageEntry) → 1 ≤ k → k ≤ 3 → page_entry_at L wanted M x k ≡ Some e → ((level : ℕ) → 1 ≤ level → level ≤ 3 → level ≢ k → page_entry_at L wanted M x level ≡ None) → pages_at L wanted M x ≡ e ∷ []
   one_of_three x k e low high is others = ⊎_elim
-      (λ one. gather (page_at L wanted M x 1) (page_at L wanted M x 2) (page_at L wanted M x 3) (Some e) None None (subst (λ k. page_at L wanted M x k ≡ Some e) one is) (others 2 (omega arith) (omega arith) (omega (arith, one))) (others 3 (omega arith) (omega arith) (omega (arith, one))))
+      (λ one. gather (page_entry_at L wanted M x 1) (page_entry_at L wanted M x 2) (page_entry_at L wanted M x 3) (Some e) None None (subst (λ k. page_entry_at L wanted M x k ≡ Some e) one is) (others 2 (omega arith) (omega arith) (omega (arith, one))) (others 3 (omega arith) (omega arith) (omega (arith, one))))
       (λ not_one. ⊎_elim
-      (λ two. gather (page_at L wanted M x 1) (page_at L wanted M x 2) (page_at L wanted M x 3) None (Some e) None (others 1 (omega arith) (omega arith) (omega (arith, two))) (subst (λ k. page_at L wanted M x k ≡ Some e) two is) (others 3 (omega arith) (omega arith) (omega (arith, two))))
+      (λ two. gather (page_entry_at L wanted M x 1) (page_entry_at L wanted M x 2) (page_entry_at L wanted M x 3) None (Some e) None (others 1 (omega arith) (omega arith) (omega (arith, two))) (subst (λ k. page_entry_at L wanted M x k ≡ Some e) two is) (others 3 (omega arith) (omega arith) (omega (arith, two))))
       (λ not_two. let three : k ≡ 3 = omega (arith, low, high, not_one, not_two) in
-      gather (page_at L wanted M x 1) (page_at L wanted M x 2) (page_at L wanted M x 3) None None (Some e) (others 1 (omega arith) (omega arith) (omega (arith, three))) (others 2 (omega arith) (omega arith) (omega (arith, three))) (subst (λ k. page_at L wanted M x k ≡ Some e) three is))
+      gather (page_entry_at L wanted M x 1) (page_entry_at L wanted M x 2) (page_entry_at L wanted M x 3) None None (Some e) (others 1 (omega arith) (omega arith) (omega (arith, three))) (others 2 (omega arith) (omega arith) (omega (arith, three))) (subst (λ k. page_entry_at L wanted M x k ≡ Some e) three is))
       (cases_eq k 2)) (cases_eq k 1)
     where
       gather : (a b c a' b' c' : Option PageEntry) → a ≡ a' → b ≡ b' → c ≡ c' → cons_option a (cons_option b (cons_option c [])) ≡ cons_option a' (cons_option b' (cons_option c' []))
@@ -125,7 +125,7 @@ module _ (L : ℕ) (wanted : ℕ → Bool) (M : PathMap) where
     in_span : (x : ℕ) → s.position ≤ x → x < end → x / span s.level ≡ s.position / span s.level
     in_span x from to = same_number s.level s.position x (omega (arith, start_is, from)) (omega (arith, start_is, to))
 
-    others : (x : ℕ) → s.position ≤ x → x < end → (level : ℕ) → 1 ≤ level → level ≤ 3 → level ≢ s.level → page_at L wanted M x level ≡ None
+    others : (x : ℕ) → s.position ≤ x → x < end → (level : ℕ) → 1 ≤ level → level ≤ 3 → level ≢ s.level → page_entry_at L wanted M x level ≡ None
     others x from to level low top other = no_page_at x level (
         ap (λ b. (x % span level == 0) && b) (only_here L T root M valid s spot ends x (in_span x from to) wanted zero_not level low (omega (arith, top, three)) other)
         ∙ and-false (x % span level == 0))
@@ -150,8 +150,8 @@ module _ (L : ℕ) (wanted : ℕ → Bool) (M : PathMap) where
             absurd (omega (arith, all, c, same, z, from))
 
     -- the page is all that starts in its span
-    pub one_between : pages_between L wanted M s.position end ≡ this ∷ []
-    unfolding pages_between
+    pub one_between : page_entries L wanted M s.position end ≡ this ∷ []
+    unfolding page_entries
     one_between =
         let pages = span_pages s.level spot.way.low in let pos = span_pos s.level in
         let some : (end - s.position) / 4096 ≡ suc ((end - (s.position + 4096)) / 4096) = omega (arith, pages, pos) in

@@ -5,7 +5,7 @@ use Rattle.std.proofs.lemmas.List.{map-append, take-append-drop}
 use Rattle.x86_64_live.proofs.PageSpots.{only_here, path_same, path_up, way_reads}
 use Rattle.x86_64_mappers.specs.Layouts.{direct_at}
 use Rattle.x86_64_live.specs.PageRanges.{HasNoPage, PageEntry, ExchangesPages, exchange_of, is_page}
-use Rattle.x86_64_live.specs.private.RangeSteps.{AreAlikeFrom, IsFirst, IsFound, IsOnWay, IsSpot, KeepPages, leads_down, wanted_by}
+use Rattle.x86_64_live.specs.private.RangeSteps.{AreAlikeFrom, IsFirstPage, SearchFinds, IsOnWay, IsSpot, KeepPages, leads_down, wanted_by}
 use Rattle.x86_64_live.specs.declared.ranges.RangeEnd.{RangeEnd}
 use Rattle.x86_64_live.specs.declared.ranges.RangeEnd.TheVariants.{All, More, LargerPage}
 use Rattle.x86_64_live.specs.declared.ranges.search.Spot.{Spot}
@@ -96,7 +96,7 @@ module _ (L : ℕ) (places : Places) (root : ℕ) (mapping : IsMapping places) (
       pub none_before : (end : ℕ) → end ≤ position_count L → 3 ≤ L → HasNoPage L wanted (paths_in n) from end → HasNoPage L wanted (paths_in m) from end
       none_before end inside three none x level after to low high = ap (is_page wanted level) (sym (alike x level after (omega (arith, to, inside)) low (omega (arith, high, three)))) ∙ none x level after to low high
 
-      pub first_before : (end : ℕ) → end ≤ position_count L → 3 ≤ L → (s : Spot) (relation : Bool) → IsFirst L root wanted (paths_in n) from end s relation → IsFirst L root wanted (paths_in m) from end s relation
+      pub first_before : (end : ℕ) → end ≤ position_count L → 3 ≤ L → (s : Spot) (relation : Bool) → IsFirstPage L root wanted (paths_in n) from end s relation → IsFirstPage L root wanted (paths_in m) from end s relation
       first_before end inside three s relation found = let to = found.before in record {
         after = found.after;
         before = found.before;
@@ -110,7 +110,7 @@ module _ (L : ℕ) (places : Places) (root : ℕ) (mapping : IsMapping places) (
         is = found.is;
       }
 
-      pub found_before : {Levels : Type 0} (end : ℕ) → end ≤ position_count L → 3 ≤ L → (r : Result Spot (RangeEnd Levels)) → IsFound L root wanted (paths_in n) from end r → IsFound L root wanted (paths_in m) from end r
+      pub found_before : {Levels : Type 0} (end : ℕ) → end ≤ position_count L → 3 ≤ L → (r : Result Spot (RangeEnd Levels)) → SearchFinds L root wanted (paths_in n) from end r → SearchFinds L root wanted (paths_in m) from end r
       found_before end inside three (Ok s) found = first_before end inside three s true found
       found_before end inside three (Err All) none = none_before end inside three none
       found_before end inside three (Err (More next)) none = none

@@ -6,8 +6,8 @@ use Rattle.std.proofs.Math.Seq.{set-append_seam, drop-cons, drop-nil}
 use Rattle.std.proofs.Math.Nat.{div-add-mod, mod-lt, mul_comm, mul-div_left}
 use Rattle.std.proofs.Math.Bool.{and-false}
 use Rattle.x86_64_live.specs.DroppedRanges.{EndsAtPage}
-use Rattle.x86_64_live.specs.PageRanges.{HasNoPage, PageEntry, AllWhole, EndsFor, ListsPages, SeesPages, StopsAt, is_page, pages_between, reached, told}
-use Rattle.x86_64_live.specs.private.RangeSteps.{IsFirst, IsFound, IsSpot, IsWithin, leads_down}
+use Rattle.x86_64_live.specs.PageRanges.{HasNoPage, PageEntry, AllWhole, EndsFor, ListsPages, SeesPages, HasPageAt, is_page, page_entries, reached, told}
+use Rattle.x86_64_live.specs.private.RangeSteps.{IsFirstPage, SearchFinds, IsSpot, IsWithin, leads_down}
 use Rattle.x86_64_live.specs.declared.ranges.PageWord.{PageWord}
 use Rattle.x86_64_live.specs.declared.ranges.RangeEnd.{RangeEnd}
 use Rattle.x86_64_live.specs.declared.ranges.RangeEnd.TheVariants.{All, More, LargerPage}
@@ -48,7 +48,7 @@ module _ (L : ℕ) (wanted : ℕ → Bool) (M : PathMap) where
       whole = λ x level from to low high page. absurd (omega (arith, from, to));
     }
 
-    listed_same : (p q count : ℕ) (after : List PageWord) → pages_between L wanted M first p ≡ pages_between L wanted M first q → AllWhole L wanted M first q
+    listed_same : (p q count : ℕ) (after : List PageWord) → page_entries L wanted M first p ≡ page_entries L wanted M first q → AllWhole L wanted M first q
         → ListsPages L wanted M first p count before after → ListsPages L wanted M first q count before after
     listed_same p q count after same all listed = record {
       number = listed.number ∙ ap length same;
@@ -57,18 +57,18 @@ module _ (L : ℕ) (wanted : ℕ → Bool) (M : PathMap) where
     }
 
     -- up to a later position, without a page
-    pub same_up : (p q : ℕ) → first ≤ p → p ≤ q → p % 4096 ≡ 0 → HasNoPage L wanted M p q → pages_between L wanted M first p ≡ pages_between L wanted M first q
-    same_up p q from to aligned none = sym (between_split L wanted M first p q from to whole aligned ∙ ap (λ xs. pages_between L wanted M first p ++ xs) (none_between L wanted M p q to none) ∙ append_none (pages_between L wanted M first p))
+    pub same_up : (p q : ℕ) → first ≤ p → p ≤ q → p % 4096 ≡ 0 → HasNoPage L wanted M p q → page_entries L wanted M first p ≡ page_entries L wanted M first q
+    same_up p q from to aligned none = sym (between_split L wanted M first p q from to whole aligned ∙ ap (λ xs. page_entries L wanted M first p ++ xs) (none_between L wanted M p q to none) ∙ append_none (page_entries L wanted M first p))
 
     pub listed_up : (p q count : ℕ) (after : List PageWord) → first ≤ p → p ≤ q → p % 4096 ≡ 0 → HasNoPage L wanted M p q
         → ListsPages L wanted M first p count before after → ListsPages L wanted M first q count before after
     listed_up p q count after from to aligned none listed = listed_same p q count after (same_up p q from to aligned none)
         (whole_joined L wanted M first p q from to listed.whole (none_is_whole L wanted M p q none)) listed
 
-    pub same_all : (p end : ℕ) → IsWithin first end p → HasNoPage L wanted M p end → pages_between L wanted M first p ≡ pages_between L wanted M first end
+    pub same_all : (p end : ℕ) → IsWithin first end p → HasNoPage L wanted M p end → page_entries L wanted M first p ≡ page_entries L wanted M first end
     same_all p end within none = ⊎_elim
         (λ less. let is : p ≡ first = ⊎_elim (λ to. absurd (omega (arith, less, to))) (λ is. is) within.to in
-        ap (pages_between L wanted M first) is ∙ between_none L wanted M first ∙ sym (between_past L wanted M first end (omega (arith, less, is))))
+        ap (page_entries L wanted M first) is ∙ between_none L wanted M first ∙ sym (between_past L wanted M first end (omega (arith, less, is))))
         (λ least. same_up p end within.from least within.aligned none)
         (cases_lt end p)
 
@@ -98,7 +98,7 @@ module _ (L : ℕ) (wanted : ℕ → Bool) (M : PathMap) where
 
     module _ (first last : ℕ) (whole : first % 4096 ≡ 0) (last_whole : last % 4096 ≡ 0) (before : List PageWord) (p count : ℕ) (after : List PageWord)
         (within : IsWithin first (last + 4096) p) (listed : ListsPages L wanted M first p count before after)
-        (s : Spot) (relation : Bool) (found : IsFirst L root wanted M p (last + 4096) s relation) where
+        (s : Spot) (relation : Bool) (found : IsFirstPage L root wanted M p (last + 4096) s relation) where
       abbrev this : PageEntry
       this = record { start = s.position; level = s.level; word = s.word }
 
@@ -117,42 +117,21 @@ module _ (L : ℕ) (wanted : ℕ → Bool) (M : PathMap) where
       entry_is : is_page wanted s.level (entry M (path_at L s.level s.position)) ≡ true
       entry_is = ap (is_page wanted s.level) found.spot.reads ∙ found.page
 
+      has_page : {Relation : ℕ → Type 0} → Relation s.level → HasPageAt L wanted M first last s.position Relation
+      has_page is = record { from = from_first; to = to_last; level = s.level; low = found.spot.way.low; high = top; page = entry_is; is = is }
+
       -- the array is full
       pub stops_more : relation ≡ true → count ≡ length before
           → ListsPages L wanted M first s.position count before after
-          × ((count ≡ length before) × StopsAt L wanted M first last s.position (λ level. (s.position % span level ≡ 0) × (s.position + span level ≤ last + 4096)))
+          × ((count ≡ length before) × HasPageAt L wanted M first last s.position (λ level. (s.position % span level ≡ 0) × (s.position + span level ≤ last + 4096)))
       stops_more is full =
-          let parts = and_parts (s.position % span s.level == 0) (nat_le (s.position + span s.level) (last + 4096)) (found.is ∙ is) in (
-            here_listed,
-            (
-              full,
-              record {
-                from = from_first;
-                to = to_last;
-                level = s.level;
-                low = found.spot.way.low;
-                high = top;
-                page = entry_is;
-                is = (eqb-true (s.position % span s.level) 0 parts.0, leb-true (s.position + span s.level) (last + 4096) parts.1);
-              },
-            ),
-          )
+          let parts = and_parts (s.position % span s.level == 0) (nat_le (s.position + span s.level) (last + 4096)) (found.is ∙ is) in
+          (here_listed, (full, has_page (eqb-true (s.position % span s.level) 0 parts.0, leb-true (s.position + span s.level) (last + 4096) parts.1)))
 
       -- a larger page is only partly in the range
       pub stops_larger : relation ≡ false → ListsPages L wanted M first s.position count before after
-          × StopsAt L wanted M first last s.position (λ level. (s.position / span level * span level < first) ⊎ (last + 4096 < s.position / span level * span level + span level))
-      stops_larger is = (
-        here_listed,
-        record {
-          from = from_first;
-          to = to_last;
-          level = s.level;
-          low = found.spot.way.low;
-          high = top;
-          page = entry_is;
-          is = by (s.position % span s.level == 0) refl (found.is ∙ is);
-        },
-      )
+          × HasPageAt L wanted M first last s.position (λ level. (s.position / span level * span level < first) ⊎ (last + 4096 < s.position / span level * span level + span level))
+      stops_larger is = (here_listed, has_page (by (s.position % span s.level == 0) refl (found.is ∙ is)))
         where
           low_is : s.position / span s.level * span s.level + s.position % span s.level ≡ s.position
           low_is = let all = div-add-mod s.position (span s.level) in let c = mul_comm (s.position / span s.level) (span s.level) in omega (arith, all, c)
@@ -204,13 +183,13 @@ module _ (L : ℕ) (wanted : ℕ → Bool) (M : PathMap) where
         abbrev next : ℕ
         next = s.position + span s.level
 
-        pub pages_more : pages_between L wanted M first next ≡ pages_between L wanted M first p ++ this ∷ []
+        pub pages_more : page_entries L wanted M first next ≡ page_entries L wanted M first p ++ this ∷ []
         pages_more = between_split L wanted M first s.position next from_first (omega arith) whole found.aligned
             ∙ ap₂ (λ xs ys. xs ++ ys) same (one_between L wanted M T root valid three zero_not s found.spot ends top found.page starts)
           where
-            same : pages_between L wanted M first s.position ≡ pages_between L wanted M first p
+            same : page_entries L wanted M first s.position ≡ page_entries L wanted M first p
             same = between_split L wanted M first p s.position within.from found.after whole within.aligned
-                ∙ ap (λ xs. pages_between L wanted M first p ++ xs) (none_between L wanted M p s.position found.after found.none) ∙ append_none (pages_between L wanted M first p)
+                ∙ ap (λ xs. page_entries L wanted M first p ++ xs) (none_between L wanted M p s.position found.after found.none) ∙ append_none (page_entries L wanted M first p)
 
         pub whole_more : AllWhole L wanted M first next
         whole_more = whole_joined L wanted M first s.position next from_first (omega arith) here_listed.whole (one_is_whole L wanted M T root valid three zero_not s found.spot ends top found.page starts)
@@ -218,7 +197,7 @@ module _ (L : ℕ) (wanted : ℕ → Bool) (M : PathMap) where
         pub listed_more : count < length before → (array : List PageWord) → array ≡ slice_set after count (told L this)
             → ListsPages L wanted M first next (count + 1) before array
         listed_more room array set_is =
-            let xs = pages_between L wanted M first p in
+            let xs = page_entries L wanted M first p in
             let size : length (map (told L) xs) ≡ count = length-map xs (told L) ∙ sym listed.number in record {
               number = ap (λ n. n + 1) listed.number ∙ sym (length-append xs (this ∷ [])) ∙ ap length (sym pages_more);
               array = set_is
@@ -237,41 +216,41 @@ module _ (L : ℕ) (wanted : ℕ → Bool) (M : PathMap) where
 
     module _ (Levels : Type 0) (first last : ℕ) (whole : first % 4096 ≡ 0) (last_whole : last % 4096 ≡ 0) (before : List PageWord) (p count : ℕ) (after : List PageWord)
         (within : IsWithin first (last + 4096) p) (listed : ListsPages L wanted M first p count before after) where
-      pub ends_listed : (end : RangeEnd Levels) → IsFound L root wanted M p (last + 4096) (Err end) → SeesPages L wanted M first last before after (record { count = count; end = end })
+      pub ends_listed : (end : RangeEnd Levels) → SearchFinds L root wanted M p (last + 4096) (Err end) → SeesPages L wanted M first last before after (record { count = count; end = end })
       ends_listed All none = record { listed = listed_all first whole before p (last + 4096) count after within none listed; end = tt }
       ends_listed (More next) none = absurd none
       ends_listed (LargerPage next) found =
           let stop = stops_larger first last whole last_whole before p count after within listed found.0 false found.2 refl in
           subst (λ n. SeesPages {Levels = Levels} L wanted M first last before after (record { count = count; end = LargerPage n })) found.1 (record { listed = stop.0; end = stop.1 })
 
-      pub pages_reached : (end : RangeEnd Levels) → IsFound L root wanted M p (last + 4096) (Err end) → pages_between L wanted M first p ≡ pages_between L wanted M first (reached last end)
+      pub pages_reached : (end : RangeEnd Levels) → SearchFinds L root wanted M p (last + 4096) (Err end) → page_entries L wanted M first p ≡ page_entries L wanted M first (reached last end)
       pages_reached All none = same_all first whole before p (last + 4096) within none
       pages_reached (More next) none = absurd none
       pages_reached (LargerPage next) found = let s = found.0 in let is = found.2 in
-          same_up first whole before p s.position within.from is.after within.aligned is.none ∙ ap (pages_between L wanted M first) found.1
+          same_up first whole before p s.position within.from is.after within.aligned is.none ∙ ap (page_entries L wanted M first) found.1
 
     -- pages that go into no array
 
-    pub listed_alone : (first p : ℕ) → AllWhole L wanted M first p → ListsPages L wanted M first p (length (pages_between L wanted M first p)) [] (map (told L) (pages_between L wanted M first p))
-    listed_alone first p all = let pages = pages_between L wanted M first p in record {
+    pub listed_alone : (first p : ℕ) → AllWhole L wanted M first p → ListsPages L wanted M first p (length (page_entries L wanted M first p)) [] (map (told L) (page_entries L wanted M first p))
+    listed_alone first p all = let pages = page_entries L wanted M first p in record {
       number = refl;
       array = sym (ap (λ ys. map (told L) pages ++ ys) (drop-nil (length pages)) ∙ append_none (map (told L) pages));
       whole = all;
     }
 
     module _ (Levels : Type 0) (first last : ℕ) (whole : first % 4096 ≡ 0) (last_whole : last % 4096 ≡ 0) (p : ℕ) (within : IsWithin first (last + 4096) p) (all : AllWhole L wanted M first p) where
-      at_page : (places count : ℕ) (end : RangeEnd Levels) → IsFound L root wanted M p (last + 4096) (Err end) → EndsFor L wanted M first last places count end → EndsAtPage L wanted M first last end
+      at_page : (places count : ℕ) (end : RangeEnd Levels) → SearchFinds L root wanted M p (last + 4096) (Err end) → EndsFor L wanted M first last places count end → EndsAtPage L wanted M first last end
       at_page places count All none is = tt
       at_page places count (More next) none is = none
       at_page places count (LargerPage next) found is = is
 
-      pub ends_alone : (end : RangeEnd Levels) → IsFound L root wanted M p (last + 4096) (Err end) → AllWhole L wanted M first (reached last end) × EndsAtPage L wanted M first last end
+      pub ends_alone : (end : RangeEnd Levels) → SearchFinds L root wanted M p (last + 4096) (Err end) → AllWhole L wanted M first (reached last end) × EndsAtPage L wanted M first last end
       ends_alone end found =
-          let pages = pages_between L wanted M first p in
+          let pages = page_entries L wanted M first p in
           let sees = ends_listed Levels first last whole last_whole [] p (length pages) (map (told L) pages) within (listed_alone first p all) end found in
           (sees.listed.whole, at_page 0 (length pages) end found sees.end)
 
-    pub none_reached : (Levels : Type 0) (first last p : ℕ) → HasNoPage L wanted M first p → (end : RangeEnd Levels) → IsFound L root wanted M p (last + 4096) (Err end) → HasNoPage L wanted M first (reached last end)
+    pub none_reached : (Levels : Type 0) (first last p : ℕ) → HasNoPage L wanted M first p → (end : RangeEnd Levels) → SearchFinds L root wanted M p (last + 4096) (Err end) → HasNoPage L wanted M first (reached last end)
     none_reached Levels first last p before All none = none_joined L T root M valid wanted first p (last + 4096) before none
     none_reached Levels first last p before (More next) none = absurd none
     none_reached Levels first last p before (LargerPage next) found =

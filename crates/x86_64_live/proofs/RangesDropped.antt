@@ -2,7 +2,7 @@
 use Rattle.std.proofs.Common.{◌≡◌, ◌∙◌, ◌+◌, ℕ, Bool, true, false, cond, ap}
 use Rattle.x86_64_live.proofs.PagesChanged.{zero_is_none}
 use Rattle.x86_64_live.specs.DroppedRanges.{DropsRange, EndsAtPage}
-use Rattle.x86_64_live.specs.PageRanges.{AllWhole, ExchangesPages, HasNoPage, is_page, pages_between, reached}
+use Rattle.x86_64_live.specs.PageRanges.{AllWhole, ExchangesPages, HasNoPage, is_page, page_entries, reached}
 use Rattle.x86_64_live.specs.declared.ranges.RangeEnd.{RangeEnd}
 use Rattle.x86_64_mappers.specs.CleanUps.{CleansUpInto}
 use Rattle.x86_64_model.specs.CleanUp.{clean_up, is_removed}
@@ -25,7 +25,7 @@ cleaned_none L M N low high is first next none x level from to one top =
 
 pub drops_range : {Levels : Type 0} (h : Hierarchy (Unit {0})) (store : Store) (first last : ℕ) (end : RangeEnd Levels) (after : Hierarchy (Unit {0})) (rest : Store) (between : Memory)
     → AllWhole h.layout.levels used (paths h) first (reached last end) → EndsAtPage h.layout.levels used (paths h) first last end
-    → ExchangesPages h.layout (λ _. 0) (pages_between h.layout.levels used (paths h) first (reached last end)) h.memory between
+    → ExchangesPages h.layout (λ _. 0) (page_entries h.layout.levels used (paths h) first (reached last end)) h.memory between
     → HasNoPage h.layout.levels used (paths (h.layout laid_in between)) first (reached last end)
     → CleansUpInto (h.layout laid_in between) store first (last + 0xfff) after rest → DropsRange h store first last end after rest
 drops_range h store first last end after rest between whole end_is taken none cleaned = record {

@@ -1,6 +1,6 @@
 -- Ranges of pages that are dropped: the pages are taken away, and then the tables that are empty are freed.
 use Rattle.std.specs.Prelude.{◌+◌, ℕ, Bool}
-use Rattle.x86_64_live.specs.PageRanges.{AllWhole, ExchangesPages, HasNoPage, StopsAtLarger, pages_between, reached}
+use Rattle.x86_64_live.specs.PageRanges.{AllWhole, ExchangesPages, HasNoPage, StopsAtLarger, page_entries, reached}
 use Rattle.x86_64_live.specs.declared.ranges.RangeEnd.{RangeEnd}
 use Rattle.x86_64_live.specs.declared.ranges.RangeEnd.TheVariants.{All, More, LargerPage}
 use Rattle.x86_64_mappers.specs.CleanUps.{CleansUpInto}
@@ -24,7 +24,7 @@ pub record DropsRange {Levels : Type 0} (h : Hierarchy (Unit {0})) (store : Stor
   pub end_is : EndsAtPage h.layout.levels used (paths h) first last end
   -- The entries of these pages became 0, which led to a memory in between.
   pub between : Memory
-  pub taken : ExchangesPages h.layout (λ _. 0) (pages_between h.layout.levels used (paths h) first (reached last end)) h.memory between
+  pub taken : ExchangesPages h.layout (λ _. 0) (page_entries h.layout.levels used (paths h) first (reached last end)) h.memory between
   -- A clean up led on from there.
   pub cleaned : CleansUpInto (h.layout laid_in between) store first (last + 0xfff) after rest
   -- So none of the pages is there any more: no entry on the way to a position up to where the range ends is that of a page.

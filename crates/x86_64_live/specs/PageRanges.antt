@@ -31,17 +31,17 @@ abbrev pub is_page : (wanted : ℕ → Bool) → (level entry : ℕ) → Bool
 is_page wanted level e = wanted e && ((level == 1) || huge e)
 
 -- The wanted page of a level that starts at a position, if there is one.
-abbrev pub page_at : (L : ℕ) → (wanted : ℕ → Bool) → PathMap → (position level : ℕ) → Option PageEntry
-page_at L wanted M x level = let e = entry M (path_at L level x) in
+abbrev pub page_entry_at : (L : ℕ) → (wanted : ℕ → Bool) → PathMap → (position level : ℕ) → Option PageEntry
+page_entry_at L wanted M x level = let e = entry M (path_at L level x) in
     cond ((x % span level == 0) && is_page wanted level e) (Some (record { start = x; level = level; word = e })) None
 
 -- The wanted pages that start at a position, of 4KiB, 2MiB or 1GiB. A valid hierarchy has at most one.
 abbrev pub pages_at : (L : ℕ) → (wanted : ℕ → Bool) → PathMap → (position : ℕ) → List PageEntry
-pages_at L wanted M x = filter_map (page_at L wanted M x) (1 ∷ 2 ∷ 3 ∷ [])
+pages_at L wanted M x = filter_map (page_entry_at L wanted M x) (1 ∷ 2 ∷ 3 ∷ [])
 
 -- The wanted pages that start at the positions from `first` up to but excluding `next`, in order.
-unfoldable pub pages_between : (L : ℕ) → (wanted : ℕ → Bool) → PathMap → (first next : ℕ) → List PageEntry
-pages_between L wanted M first next = flat_map (pages_at L wanted M) (exclusive_range 4096 first next)
+unfoldable pub page_entries : (L : ℕ) → (wanted : ℕ → Bool) → PathMap → (first next : ℕ) → List PageEntry
+page_entries L wanted M first next = flat_map (pages_at L wanted M) (exclusive_range 4096 first next)
 
 -- The page of a level that has a position lies in the positions from `first` up to but excluding `next`.
 abbrev pub LiesIn : (first next level position : ℕ) → Type 0
@@ -78,7 +78,7 @@ stop_of (LargerPage next) = stop.LargerPage
 
 -- At the position `next` of the range from `first` to the page at `last` there is a wanted page of a level, which has this relation to
 -- the range.
-pub record StopsAt (L : ℕ) (wanted : ℕ → Bool) (M : PathMap) (first last next : ℕ) (Relation : (level : ℕ) → Type 0) : Type 0 where
+pub record HasPageAt (L : ℕ) (wanted : ℕ → Bool) (M : PathMap) (first last next : ℕ) (Relation : (level : ℕ) → Type 0) : Type 0 where
   pub from : first ≤ next
   pub to : next ≤ last
   pub level : ℕ
@@ -91,14 +91,14 @@ pub record StopsAt (L : ℕ) (wanted : ℕ → Bool) (M : PathMap) (first last n
 -- the range.
 abbrev pub StopsAtLarger : (L : ℕ) → (wanted : ℕ → Bool) → PathMap → (first last next : ℕ) → Type 0
 StopsAtLarger L wanted M first last next =
-    StopsAt L wanted M first last next (λ level. (next / span level * span level < first) ⊎ (last + 4096 < next / span level * span level + span level))
+    HasPageAt L wanted M first last next (λ level. (next / span level * span level < first) ⊎ (last + 4096 < next / span level * span level + span level))
 
 -- Why a range ends, with so many places in the array and so many pages in it: all pages are there, or the array is full and the next
 -- page lies in the range, or the next page is larger and lies only partly in the range.
 abbrev pub EndsFor : {Levels : Type 0} → (L : ℕ) → (wanted : ℕ → Bool) → PathMap → (first last places count : ℕ) → RangeEnd Levels → Type 0
 EndsFor L wanted M first last places count All = Unit {0}
 EndsFor L wanted M first last places count (More next) = (count ≡ places)
-    × StopsAt L wanted M first last next (λ level. (next % span level ≡ 0) × (next + span level ≤ last + 4096))
+    × HasPageAt L wanted M first last next (λ level. (next % span level ≡ 0) × (next + span level ≤ last + 4096))
 EndsFor L wanted M first last places count (LargerPage next) = StopsAtLarger L wanted M first last next
 
 -- ---- what a range sees and changes
@@ -110,8 +110,8 @@ told L p = record { page = raw L p.start; size = span p.level; word = p.word }
 -- An array got the wanted pages of a path map that start at the positions from `first` up to but excluding `next`, in order and
 -- counted, and keeps what it held behind them. No wanted page lies there only partly.
 pub record ListsPages (L : ℕ) (wanted : ℕ → Bool) (M : PathMap) (first next count : ℕ) (before after : List PageWord) : Type 0 where
-  pub number : count ≡ length (pages_between L wanted M first next)
-  pub array : after ≡ map (told L) (pages_between L wanted M first next) ++ drop count before
+  pub number : count ≡ length (page_entries L wanted M first next)
+  pub array : after ≡ map (told L) (page_entries L wanted M first next) ++ drop count before
   pub whole : AllWhole L wanted M first next
 
 -- The array gets the wanted pages of a path map from the page at `first` to the page at `last`, up to where the range ends.

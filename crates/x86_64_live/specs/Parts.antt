@@ -29,24 +29,24 @@ parts_of level e = map (part_of level e) (range_with_len 0 512)
 -- The bits of a word that say where a page lies and which kind of memory it is: PRESENT, WRITE_THROUGH, NO_CACHE, bit 7 (HUGE_PAGE or
 -- PAT), GLOBAL, the address with PAT among its bits, and the protection key. Neither marks nor bits that no processor reads are among
 -- them.
-abbrev pub kind_bits : ℕ
-kind_bits = 0x780f_ffff_ffff_f199
+abbrev pub part_bits : ℕ
+part_bits = 0x780f_ffff_ffff_f199
 
 -- Below the entry t, which names its table, a word maps the j-th part of a page that has the word e: the same frame as the same kind of
 -- memory, with the rights that e grants.
-pub record MapsPart (level e t j word : ℕ) : Type 0 where
-  pub kind : bit_and word kind_bits ≡ bit_and (part_of level e j) kind_bits
+pub record IsPartOf (level e t j word : ℕ) : Type 0 where
+  pub kind : bit_and word part_bits ≡ bit_and (part_of level e j) part_bits
   pub rights : granted (granted every_right t) word ≡ granted every_right e
 
 -- Below the entry t, which names their table, these words map the parts of a page that has the word e.
 pub record MapsParts (level e t : ℕ) (words : List ℕ) : Type 0 where
   pub page : split_refusal level e ≡ None
-  pub parts : (j : ℕ) → j < 512 → MapsPart level e t j (get_or words j 0)
+  pub parts : (j : ℕ) → j < 512 → IsPartOf level e t j (get_or words j 0)
 
 -- Whether one of these words has DIRTY.
 abbrev pub any_dirty : (words : List ℕ) → Bool
 any_dirty words = list_any (λ word. has word 0x40) words
 
 -- The word of a larger page that takes the place of its parts: with ACCESSED, and with DIRTY if the page is writable or a part has it.
-abbrev pub joined : (entry : ℕ) → (words : List ℕ) → ℕ
-joined e words = bit_or e (bit_or 0x20 (cond (writable e || any_dirty words) 0x40 0))
+abbrev pub page_of_parts : (entry : ℕ) → (words : List ℕ) → ℕ
+page_of_parts e words = bit_or e (bit_or 0x20 (cond (writable e || any_dirty words) 0x40 0))

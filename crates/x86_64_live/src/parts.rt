@@ -1,11 +1,12 @@
 //! Parts of larger pages
 ghost use Rattle.std.specs.Prelude.{◌≡◌, ◌<◌, ◌-◌, ◌↔◌, ◌||◌, ℕ, cond, get_or, bit_or, Some, None, IfErr, IfOk, IsTrue, OnErr, OnOk};
 ghost use Rattle.x86_64_live.specs.Parts as parts;
-ghost use Rattle.x86_64_live.specs.Parts.{split_refusal, MapsPart, MapsParts};
+ghost use Rattle.x86_64_live.specs.Parts.{split_refusal, IsPartOf, MapsParts};
 ghost use Rattle.x86_64_model.specs.Entry.{has, writable};
 ghost use Rattle.x86_64_model.specs.Laws.Splits as splits;
 ghost use Rattle.x86_64_model.specs.Laws.Splits.{AllowsAll, AreParts};
 
+use bitflags::Flags;
 use x86_64_tables::page_table::{PageTable, PageTableEntry, PageTableFlags, Rights, has_flag};
 
 /// The bit PAT of a 2MiB or 1GiB page.
@@ -20,14 +21,8 @@ const SMALL_FLAGS: u64 = 0xfff0_0000_0000_0f7f;
 /// The flags of an entry.
 const FLAGS: u64 = 0xfff0_0000_0000_0fff;
 
-/// The mark of an entry that a processor has used.
-const ACCESSED: u64 = 0x20;
-
-/// The mark of a page that a processor has written to.
-const DIRTY: u64 = 0x40;
-
 /// The bits of a word that say where a page lies and which kind of memory it is.
-const KIND_BITS: u64 = 0x780f_ffff_ffff_f199;
+const PART_BITS: u64 = 0x780f_ffff_ffff_f199;
 
 /// Why a page can't be split.
 #[derive(Clone, Copy, Debug, PartialEq)]
@@ -158,13 +153,13 @@ pub fn are_parts(level: u64, word: u64, entry: u64, table: &PageTable) -> bool
 /// Returns true if an entry of a table maps a part of a page that has this word, below an entry which names the table.
 fn is_part(level: u64, word: u64, above: u64, index: u64, entry: &PageTableEntry) -> bool
     requires { index < 512 }
-    ensures { IsTrue result ↔ MapsPart level word above index entry.now }
+    ensures { IsTrue result ↔ IsPartOf level word above index entry.now }
 {
     let granted = Rights::ALL
         .below(&PageTableEntry::from_word(above))
         .below(entry);
     let part = part_of(level, word, index);
-    entry.word() & KIND_BITS == part & KIND_BITS
+    entry.word() & PART_BITS == part & PART_BITS
         && granted == Rights::ALL.below(&PageTableEntry::from_word(word))
 }
 
@@ -173,9 +168,9 @@ fn is_part(level: u64, word: u64, above: u64, index: u64, entry: &PageTableEntry
 ///
 /// A processor may mark a part as dirty at any moment, if it is writable, so a writable page counts as dirty.
 pub fn joined_word(word: u64, table: &PageTable) -> u64
-    ensures { result ≡ parts.joined word table.now }
+    ensures { result ≡ parts.page_of_parts word table.now }
 {
-    word | (ACCESSED | dirty_mark(word, table))
+    word | (PageTableFlags::ACCESSED.bits() | dirty_mark(word, table))
 }
 
 /// Returns `DIRTY` if a page that takes the place of the parts in a table has to have it, and otherwise 0.
@@ -184,7 +179,7 @@ fn dirty_mark(word: u64, table: &PageTable) -> u64
 {
     let entry = PageTableEntry::from_word(word);
     if has_flag(&entry, PageTableFlags::WRITABLE) || any_dirty(table) {
-        DIRTY
+        PageTableFlags::DIRTY.bits()
     } else {
         0
     }

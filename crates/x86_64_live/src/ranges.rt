@@ -1,7 +1,7 @@
 //! Ranges of pages of all sizes
 ghost use Rattle.std.specs.Prelude.{◌≡◌, ◌<◌, ◌≤◌, ◌+◌, ◌%◌, true, IsSome, option_map};
 ghost use Rattle.x86_64_mappers.specs.Layouts.{direct_at};
-ghost use Rattle.x86_64_live.specs.PageRanges.{are_flag_masks, goes_on_at, pages_between, reached, stop_of, told, ExchangesPages, SeesPages};
+ghost use Rattle.x86_64_live.specs.PageRanges.{are_flag_masks, goes_on_at, page_entries, reached, stop_of, told, ExchangesPages, SeesPages};
 ghost use Rattle.x86_64_live.specs.private.RangeSteps.{wanted_by, KeepPages};
 ghost use Rattle.x86_64_model.specs.Entry.{present, used};
 ghost use Rattle.x86_64_model.specs.Hierarchy.{◌laid_in◌, Valid, paths};
@@ -23,7 +23,7 @@ use x86_64_page::range::{Block, BlockRangeInclusive};
 use x86_64_tables::phys_memory::{PageTableFrameMapping, TableMemory, index_of};
 
 /// The bits of an entry that say what it names: `HUGE_PAGE`, and the address, bits 12 to 51.
-const KIND_BITS: u64 = 0x000f_ffff_ffff_f080;
+const TARGET_BITS: u64 = 0x000f_ffff_ffff_f080;
 
 /// A page and the word of its entry.
 #[derive(Clone, Copy, Debug, PartialEq)]
@@ -181,7 +181,7 @@ pub fn take_range<L: LevelCount, T: TableMemory, P: PageTableFrameMapping>(
         range.start range.end pages.old pages.new result }
     ensures changes { let layout = direct_at L.LEVELS (P.places mapping.now) root in
         ExchangesPages layout (λ _. 0)
-        (pages_between L.LEVELS used (paths (layout laid_in T.tables memory.old))
+        (page_entries L.LEVELS used (paths (layout laid_in T.tables memory.old))
         range.start (reached range.end result.end)) (T.tables memory.old) (T.tables memory.new) }
     ensures lent { T.lent memory.new ≡ T.lent memory.old }
 {
@@ -193,7 +193,7 @@ pub fn take_range<L: LevelCount, T: TableMemory, P: PageTableFrameMapping>(
 pub fn are_flag_masks(keep: u64, set: u64) -> bool
     ensures { result ≡ are_flag_masks keep set }
 {
-    keep & KIND_BITS == KIND_BITS && set & KIND_BITS == 0
+    keep & TARGET_BITS == TARGET_BITS && set & TARGET_BITS == 0
 }
 
 /// Changes the flags of the present pages of a range: writes them to an array, with the words that were there, as [`list_range`] does,
@@ -218,7 +218,7 @@ pub fn change_range<L: LevelCount, T: TableMemory, P: PageTableFrameMapping>(
         range.start range.end pages.old pages.new result }
     ensures changes { let layout = direct_at L.LEVELS (P.places mapping.now) root in
         ExchangesPages layout (by_masks keep set)
-        (pages_between L.LEVELS present (paths (layout laid_in T.tables memory.old))
+        (page_entries L.LEVELS present (paths (layout laid_in T.tables memory.old))
         range.start (reached range.end result.end)) (T.tables memory.old) (T.tables memory.new) }
     ensures lent { T.lent memory.new ≡ T.lent memory.old }
 {
@@ -252,7 +252,7 @@ fn change_pages<L: LevelCount, T: TableMemory, P: PageTableFrameMapping>(
         range.start range.end pages.old pages.new result }
     ensures changes { let layout = direct_at L.LEVELS (P.places mapping.now) root in
         ExchangesPages layout (by_masks masks.keep masks.set)
-        (pages_between L.LEVELS (wanted_by wanted) (paths (layout laid_in T.tables memory.old))
+        (page_entries L.LEVELS (wanted_by wanted) (paths (layout laid_in T.tables memory.old))
         range.start (reached range.end result.end)) (T.tables memory.old) (T.tables memory.new) }
     ensures lent { T.lent memory.new ≡ T.lent memory.old }
 {

@@ -1,5 +1,6 @@
 //! Parts of larger pages
 
+use crate::bitflags::Flags;
 use crate::tables::page_table::{has_flag, PageTable, PageTableEntry, PageTableFlags, Rights};
 
 /// The bit PAT of a 2MiB or 1GiB page.
@@ -14,14 +15,8 @@ const SMALL_FLAGS: u64 = 0xfff0_0000_0000_0f7f;
 /// The flags of an entry.
 const FLAGS: u64 = 0xfff0_0000_0000_0fff;
 
-/// The mark of an entry that a processor has used.
-const ACCESSED: u64 = 0x20;
-
-/// The mark of a page that a processor has written to.
-const DIRTY: u64 = 0x40;
-
 /// The bits of a word that say where a page lies and which kind of memory it is.
-const KIND_BITS: u64 = 0x780f_ffff_ffff_f199;
+const PART_BITS: u64 = 0x780f_ffff_ffff_f199;
 
 /// Why a page can't be split.
 #[derive(Clone, Copy, Debug, PartialEq)]
@@ -157,7 +152,7 @@ pub fn are_parts(level: u64, word: u64, entry: u64, table: &PageTable) -> bool {
 fn is_part(level: u64, word: u64, above: u64, index: u64, entry: &PageTableEntry) -> bool {
     let granted = Rights::ALL.below(&PageTableEntry::from_word(above)).below(entry);
     let part = part_of(level, word, index);
-    entry.word() & KIND_BITS == part & KIND_BITS && granted == Rights::ALL.below(&PageTableEntry::from_word(word))
+    entry.word() & PART_BITS == part & PART_BITS && granted == Rights::ALL.below(&PageTableEntry::from_word(word))
 }
 
 /// Returns the word of a larger page that takes the place of the parts in a table: with `ACCESSED`, and with `DIRTY` if the page is
@@ -168,11 +163,11 @@ fn is_part(level: u64, word: u64, above: u64, index: u64, entry: &PageTableEntry
 /// # Proved
 ///
 /// ```text
-/// ensures { result ≡ parts.joined word table.now }
+/// ensures { result ≡ parts.page_of_parts word table.now }
 /// ```
 #[inline]
 pub fn joined_word(word: u64, table: &PageTable) -> u64 {
-    word | (ACCESSED | dirty_mark(word, table))
+    word | (PageTableFlags::ACCESSED.bits() | dirty_mark(word, table))
 }
 
 /// Returns `DIRTY` if a page that takes the place of the parts in a table has to have it, and otherwise 0.
@@ -180,7 +175,7 @@ pub fn joined_word(word: u64, table: &PageTable) -> u64 {
 fn dirty_mark(word: u64, table: &PageTable) -> u64 {
     let entry = PageTableEntry::from_word(word);
     if has_flag(&entry, PageTableFlags::WRITABLE) || any_dirty(table) {
-        DIRTY
+        PageTableFlags::DIRTY.bits()
     } else {
         0
     }

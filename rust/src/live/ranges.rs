@@ -13,7 +13,7 @@ pub use drops::drop_range;
 use search::{next_page, Cursor, Spot, Wanted};
 
 /// The bits of an entry that say what it names: `HUGE_PAGE`, and the address, bits 12 to 51.
-const KIND_BITS: u64 = 0x000f_ffff_ffff_f080;
+const TARGET_BITS: u64 = 0x000f_ffff_ffff_f080;
 
 /// A page and the word of its entry.
 #[derive(Clone, Copy, Debug, PartialEq)]
@@ -156,7 +156,7 @@ fn word_told<L: LevelCount>(spot: &Spot) -> PageWord {
 /// ```text
 /// requires { Valid (direct_at L.LEVELS (P.places mapping.now) root laid_in T.tables memory.old) }
 /// ensures sees { SeesPages L.LEVELS used (paths (direct_at L.LEVELS (P.places mapping.now) root laid_in T.tables memory.old)) range.start range.end pages.old pages.new result }
-/// ensures changes { let layout = direct_at L.LEVELS (P.places mapping.now) root in ExchangesPages layout (λ _. 0) (pages_between L.LEVELS used (paths (layout laid_in T.tables memory.old)) range.start (reached range.end result.end)) (T.tables memory.old) (T.tables memory.new) }
+/// ensures changes { let layout = direct_at L.LEVELS (P.places mapping.now) root in ExchangesPages layout (λ _. 0) (page_entries L.LEVELS used (paths (layout laid_in T.tables memory.old)) range.start (reached range.end result.end)) (T.tables memory.old) (T.tables memory.new) }
 /// ensures lent { T.lent memory.new ≡ T.lent memory.old }
 /// ```
 pub fn take_range<L: LevelCount, T: TableMemory, P: PageTableFrameMapping>(
@@ -179,7 +179,7 @@ pub fn take_range<L: LevelCount, T: TableMemory, P: PageTableFrameMapping>(
 /// ```
 #[inline]
 pub fn are_flag_masks(keep: u64, set: u64) -> bool {
-    keep & KIND_BITS == KIND_BITS && set & KIND_BITS == 0
+    keep & TARGET_BITS == TARGET_BITS && set & TARGET_BITS == 0
 }
 
 /// Changes the flags of the present pages of a range: writes them to an array, with the words that were there, as [`list_range`] does,
@@ -203,7 +203,7 @@ pub fn are_flag_masks(keep: u64, set: u64) -> bool {
 /// requires valid { Valid (direct_at L.LEVELS (P.places mapping.now) root laid_in T.tables memory.old) }
 /// requires masks { are_flag_masks keep set ≡ true }
 /// ensures sees { SeesPages L.LEVELS present (paths (direct_at L.LEVELS (P.places mapping.now) root laid_in T.tables memory.old)) range.start range.end pages.old pages.new result }
-/// ensures changes { let layout = direct_at L.LEVELS (P.places mapping.now) root in ExchangesPages layout (by_masks keep set) (pages_between L.LEVELS present (paths (layout laid_in T.tables memory.old)) range.start (reached range.end result.end)) (T.tables memory.old) (T.tables memory.new) }
+/// ensures changes { let layout = direct_at L.LEVELS (P.places mapping.now) root in ExchangesPages layout (by_masks keep set) (page_entries L.LEVELS present (paths (layout laid_in T.tables memory.old)) range.start (reached range.end result.end)) (T.tables memory.old) (T.tables memory.new) }
 /// ensures lent { T.lent memory.new ≡ T.lent memory.old }
 /// ```
 pub fn change_range<L: LevelCount, T: TableMemory, P: PageTableFrameMapping>(

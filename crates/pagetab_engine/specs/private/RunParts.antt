@@ -6,7 +6,7 @@ use Rattle.x86_64_model.specs.Machine.{State}
 use Rattle.x86_64_tables.specs.PageTable.{zero_words}
 use Rattle.pagetab_engine.specs.Commands.{Command, Call, Show, Statement, Asks}
 use Rattle.pagetab_engine.specs.Frames.{IsLoadable, memory_loaded, free_after}
-use Rattle.pagetab_engine.specs.Hierarchy.{hierarchy_state, BothAnswer, HasCopy, KeepsHierarchy, KeepsFree}
+use Rattle.pagetab_engine.specs.Hierarchy.{hierarchy_state, BothAnswer, HasCopy, KeepsHierarchy, KeepsFreeWords}
 use Rattle.pagetab_engine.specs.Image.{Loaded}
 use Rattle.pagetab_engine.specs.Lines.{Numbered, numbered_from, lines_of}
 use Rattle.pagetab_engine.specs.Modes.{first_memory, is_refused}
@@ -59,7 +59,7 @@ pub record AnswersCommand (command : Command) (before : Hierarchy) (answer : Rep
   pub reply : IsShown command → command_reply (situation_of before) command ≡ Some answer
   pub state : hierarchy_state after ≡ command_state before command
   pub reads : OnlyReads before command → after ≡ before
-  pub free : KeepsFree before (command_back before command) after
+  pub free : KeepsFreeWords before (command_back before command) after
   pub keeps : KeepsHierarchy before after
   pub both : IsToldByBoth before command answer after
 

@@ -1,16 +1,17 @@
 //! Clean ups that keep the tables which the root's entries name
-ghost use Rattle.std.specs.Prelude.{◌≡◌, ℕ, List, None, Some, IfOk, IfErr, OnErr};
+ghost use Rattle.std.specs.Prelude.{ℕ, List};
 ghost use Rattle.x86_64_c.specs.BelowRoot as below;
 ghost use Rattle.x86_64_c.specs.PoolCalls as calls;
 
-use crate::arguments::{Hierarchy, Located, page_at};
-use crate::operation::{Operation, enter};
-use crate::pool::{PoolStep, Stepped, with_pool};
+use crate::arguments::{Hierarchy, Located};
+use crate::operation::enter;
+use crate::pool::ranges::{RangeOperation, RangeStep};
 use crate::status;
 use x86_64::structures::paging::mapper::{MappedPageTableIn, PageTableFrameMapping};
 use x86_64::structures::paging::{PageIn, PageTable, Size4KiB};
 use x86_64::{FrameStore, LevelCount, OwnFrames, TableMemory};
 use x86_64_mappers::calls as mapper_calls;
+use x86_64_page::range::BlockRangeInclusive;
 
 /// Frees what `x64_clean_up` frees but the tables that an entry of the root names, and puts their frames on the pool. The root's entries
 /// stay, and so does the result of each page walk.
@@ -34,11 +35,12 @@ pub extern "C" fn x64_clean_up_below_root(
         (calls.loan tables.old pool.old free_count.old) first_page last_page result
         (calls.loan tables.new pool.new free_count.new) }
 {
-    let clean_up = CleanUpBelowRoot {
-        first_page,
-        last_page,
+    let clean_up = RangeOperation {
+        first: first_page,
+        last: last_page,
         free_count: *free_count,
         own: OwnFrames::of(),
+        step: EmptyTablesBelowRoot,
     };
     match enter(hierarchy, tables, pool, &clean_up) {
         Ok(cleaned) => {
@@ -49,91 +51,32 @@ pub extern "C" fn x64_clean_up_below_root(
     }
 }
 
-/// The clean up below the root's entries, on the way to the pages from the first to the last, with the number of free frames of the pool
-/// in the operation's array, and its own frames.
-#[derive(Drop)]
-pub struct CleanUpBelowRoot {
-    first_page: u64,
-    last_page: u64,
-    free_count: usize,
-    own: OwnFrames,
-}
-
-impl Operation for CleanUpBelowRoot {
-    ghost use Rattle.std.specs.Prelude.{◌+◌};
-    ghost use Rattle.x86_64_c.specs.Arguments.{position_of};
-    ghost use Rattle.x86_64_c.specs.BelowRoot.{CleansBelowRoot};
-    ghost use Rattle.x86_64_c.specs.PoolCalls.{bad_pool, wrong_range};
-    ghost use Rattle.x86_64_c.specs.private.Pools.{FitsIn, Leaves};
-
-    type Out = Stepped<u32>;
-
-    type Entry = u64;
-
-    ghost wrong = { λ new levels tables room.
-        bad_pool new.free_count room (wrong_range levels new.first_page new.last_page) };
-
-    ghost may = { λ new h array. FitsIn new.own.frames h array new.free_count };
-
-    ghost does = { λ new h array after left cleaned.
-        Leaves new.own.frames array new.free_count left cleaned.free_count (λ pool rest.
-        CleansBelowRoot h pool (position_of h.layout.levels new.first_page)
-        (position_of h.layout.levels new.last_page + 0xfff) after rest cleaned.out) };
-
-    fn execute<L: LevelCount, T: TableMemory, P: PageTableFrameMapping + Copy>(
-        &self,
-        memory: &mut T,
-        located: Located<P>,
-        array: &mut [u64],
-    ) -> Result<Stepped<u32>, u32> {
-        if array.len() < self.free_count {
-            return Err(status::BAD_ARRAY);
-        }
-        let pages = PagesBelowRoot::<L> {
-            first: page_at(self.first_page)?,
-            last: page_at(self.last_page)?,
-        };
-        Ok(with_pool(memory, located, &self.own, array, self.free_count, &pages))
-    }
-}
-
-/// The pages on whose paths the tables below the root's entries are cleaned up.
+/// The clean up of a range below the root's entries, which frees the empty tables that no entry of the root names.
 #[derive(Clone, Copy)]
-pub struct PagesBelowRoot<L: LevelCount> {
-    first: PageIn<Size4KiB, L>,
-    last: PageIn<Size4KiB, L>,
-}
+pub struct EmptyTablesBelowRoot;
 
-impl<L: LevelCount> PoolStep<L> for PagesBelowRoot<L> {
-    ghost use Rattle.std.specs.Prelude.{◌+◌, false};
+impl RangeStep for EmptyTablesBelowRoot {
+    ghost use Rattle.std.specs.Prelude.{◌+◌};
     ghost use Rattle.x86_64_c.specs.BelowRoot.{CleansBelowRoot};
     ghost use Rattle.x86_64_c.specs.private.BelowRootLaws.{own_cleans};
 
     type Out = u32;
 
-    ghost gives_root = { λ _. false };
+    ghost does = { λ h pool first last after rest status.
+        CleansBelowRoot h pool first (last + 0xfff) after rest status };
 
-    ghost refused = { λ _. false };
-
-    ghost does = { λ pages h pool after rest status.
-        CleansBelowRoot h pool pages.first (pages.last + 0xfff) after rest status };
-
-    fn take<T: TableMemory, P: PageTableFrameMapping + Copy, F: FrameStore>(
+    fn take<L: LevelCount, T: TableMemory, P: PageTableFrameMapping + Copy, F: FrameStore>(
         &self,
         memory: &mut T,
         located: Located<P>,
+        range: BlockRangeInclusive<PageIn<Size4KiB, L>>,
         frames: &mut F,
-        _free_count: usize,
     ) -> u32 {
         let mut mapper = MappedPageTableIn::<_, L, T>::new(memory, located.root, located.mapping);
-        mapper_calls::clean_up_below_root(
-            &mut mapper,
-            PageIn::range_inclusive(self.first, self.last),
-            frames,
-        );
+        mapper_calls::clean_up_below_root(&mut mapper, range, frames);
         status::OK
     }
 
-    ghost own_frames = { λ pages own array count serves same h after free rest status.
+    ghost own_frames = { λ own array count serves same h after free rest first last status.
         own_cleans own array count same h after free rest _ _ status };
 }

@@ -49,7 +49,7 @@ abbrev pub StartsAt : (L root frame level : ℕ) → Cursor → Type 0
 StartsAt L root frame level c = ((c.frame ≡ root) × (c.level ≡ L)) ⊎ ((c.frame ≡ frame) × ((c.level ≡ level) × (index level c.position ≢ 0)))
 
 -- The first wanted page from a position on, with a position before `end`, is at this spot, to which the relation holds.
-pub record IsFirst (L root : ℕ) (wanted : ℕ → Bool) (M : PathMap) (from end : ℕ) (s : Spot) (relation : Bool) : Type 0 where
+pub record IsFirstPage (L root : ℕ) (wanted : ℕ → Bool) (M : PathMap) (from end : ℕ) (s : Spot) (relation : Bool) : Type 0 where
   pub after : from ≤ s.position
   pub before : s.position < end
   pub none : HasNoPage L wanted M from s.position
@@ -59,11 +59,11 @@ pub record IsFirst (L root : ℕ) (wanted : ℕ → Bool) (M : PathMap) (from en
   pub is : (s.position % span s.level == 0) && nat_le (s.position + span s.level) end ≡ relation
 
 -- What a search from a position on finds, up to but excluding `end`: the spot of a page, or why there is none.
-abbrev pub IsFound : {Levels : Type 0} → (L root : ℕ) → (wanted : ℕ → Bool) → PathMap → (from end : ℕ) → Result Spot (RangeEnd Levels) → Type 0
-IsFound L root wanted M from end (Ok s) = IsFirst L root wanted M from end s true
-IsFound L root wanted M from end (Err All) = HasNoPage L wanted M from end
-IsFound L root wanted M from end (Err (More next)) = ⊥
-IsFound L root wanted M from end (Err (LargerPage next)) = (s : Spot) × (s.position ≡ next) × IsFirst L root wanted M from end s false
+abbrev pub SearchFinds : {Levels : Type 0} → (L root : ℕ) → (wanted : ℕ → Bool) → PathMap → (from end : ℕ) → Result Spot (RangeEnd Levels) → Type 0
+SearchFinds L root wanted M from end (Ok s) = IsFirstPage L root wanted M from end s true
+SearchFinds L root wanted M from end (Err All) = HasNoPage L wanted M from end
+SearchFinds L root wanted M from end (Err (More next)) = ⊥
+SearchFinds L root wanted M from end (Err (LargerPage next)) = (s : Spot) × (s.position ≡ next) × IsFirstPage L root wanted M from end s false
 
 -- The position is one of the range from `first` up to `end`, or `end`, and a multiple of 4KiB. It is `first` if the range is empty.
 pub record IsWithin (first end position : ℕ) : Type 0 where

@@ -3,7 +3,7 @@ ghost use Rattle.std.specs.Prelude.{◌≡◌};
 ghost use Rattle.x86_64_mappers.specs.CleanUps.{deallocator_store, MayCleanUpInto};
 ghost use Rattle.x86_64_mappers.specs.Layouts.{direct_at};
 ghost use Rattle.x86_64_live.specs.DroppedRanges.{DropsRange, EndsAtPage};
-ghost use Rattle.x86_64_live.specs.PageRanges.{pages_between, reached, AllWhole, ExchangesPages, HasNoPage};
+ghost use Rattle.x86_64_live.specs.PageRanges.{page_entries, reached, AllWhole, ExchangesPages, HasNoPage};
 ghost use Rattle.x86_64_model.specs.Entry.{used};
 ghost use Rattle.x86_64_model.specs.Hierarchy.{◌laid_in◌, Valid, paths};
 
@@ -70,7 +70,7 @@ fn take_all<L: LevelCount, T: TableMemory, P: PageTableFrameMapping>(
         range.start range.end result }
     ensures changes { let layout = direct_at L.LEVELS (P.places mapping.now) root in
         ExchangesPages layout (λ _. 0)
-        (pages_between L.LEVELS used (paths (layout laid_in T.tables memory.old))
+        (page_entries L.LEVELS used (paths (layout laid_in T.tables memory.old))
         range.start (reached range.end result)) (T.tables memory.old) (T.tables memory.new) }
     ensures none { HasNoPage L.LEVELS used
         (paths (direct_at L.LEVELS (P.places mapping.now) root laid_in T.tables memory.new))

@@ -2,7 +2,7 @@
 ghost use Rattle.std.specs.Prelude.{◌≡◌, ◌<◌, ◌≤◌, ◌+◌, ◌*◌, ◌/◌, ◌%◌, ◌==◌, ◌&&◌, false, nat_le};
 ghost use Rattle.x86_64_mappers.specs.Layouts.{direct_at};
 ghost use Rattle.x86_64_live.specs.PageRanges.{is_page};
-ghost use Rattle.x86_64_live.specs.private.RangeSteps.{wanted_by, below_of, leads_down, IsOnWay, LooksDown, StartsAt, IsFound};
+ghost use Rattle.x86_64_live.specs.private.RangeSteps.{wanted_by, below_of, leads_down, IsOnWay, LooksDown, StartsAt, SearchFinds};
 ghost use Rattle.x86_64_model.specs.Hierarchy.{◌laid_in◌, Valid, paths};
 ghost use Rattle.x86_64_model.specs.Memory.{word, words_of};
 ghost use Rattle.x86_64_model.specs.Position.{index, span as span_of, position_count};
@@ -217,7 +217,7 @@ pub(super) fn next_page<L: LevelCount, T: TableMemory, P: PageTableFrameMapping>
     requires way { from.position < end → IsOnWay L.LEVELS root
         (paths (direct_at L.LEVELS (P.places mapping.now) root laid_in T.tables memory.now))
         from.position from.level from.frame }
-    ensures { IsFound L.LEVELS root (wanted_by wanted)
+    ensures { SearchFinds L.LEVELS root (wanted_by wanted)
         (paths (direct_at L.LEVELS (P.places mapping.now) root laid_in T.tables memory.now))
         from.position end result }
 {

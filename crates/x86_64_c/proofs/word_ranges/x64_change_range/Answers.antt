@@ -1,5 +1,5 @@
 use Rattle.std.proofs.Common.{length}
-use Rattle.x86_64_c.proofs.WordRangesTold.{told_change}
+use Rattle.x86_64_c.proofs.WordRangesTold.{told_task}
 use Rattle.x86_64_c.specs.Arguments.{hierarchy_in}
 use Rattle.x86_64_c.specs.WordRanges.{ExchangesRange, bad_word_change}
 use Rattle.x86_64_model.specs.Entry.{present}
@@ -9,7 +9,7 @@ use Rattle.x86_64_c.proofs.word_ranges.x64_change_range.Goals as goal
 pub returns-clause-changes : goal.returns-clause-changes
 returns-clause-changes c good =
     let h = hierarchy_in c.args.hierarchy.now c.args.tables.now in
-    told_change c.enter-told.result h present c.args.first c.args.last c.args.pages.now c.enter-told.new.array
+    told_task c.enter-told.result h present c.args.first c.args.last c.args.pages.now c.enter-told.new.array
     (λ end. ExchangesRange h present (by_masks c.args.keep c.args.set) c.args.first c.args.last end (hierarchy_in c.args.hierarchy.now c.enter-told.new.tables).memory)
     (bad_word_change c.args.hierarchy.now (length c.args.tables.now) c.args.first c.args.last c.args.keep c.args.set)
     c.tell.result c.tell.new.count c.args.next.now c.tell.new.next c.enter-told.ensures.does c.tell.ensures.good c.enter-told.ensures.bad good

@@ -1,7 +1,7 @@
 use Rattle.std.proofs.Common.{◌≡◌, ◌∙◌, ⊎_elim, sym, subst, get_or, true, false, true≢false, Option, Some, None, Result, Ok, Err, IfOk, IfErr, is_err, refl, arith}
 use Rattle.std.proofs.lemmas.Bool.{cases_lt}
 use Rattle.std.proofs.lemmas.Option.{none-some}
-use Rattle.x86_64_live.specs.Parts.{split_refusal, MapsPart}
+use Rattle.x86_64_live.specs.Parts.{split_refusal, IsPartOf}
 use Rattle.x86_64_live.proofs.PageParts.{are_parts}
 use Rattle.x86_64_live.proofs.parts.are_parts.Goals as goal
 
@@ -17,9 +17,9 @@ not_err o (Err e) is says none = none-some e (sym none ∙ says)
 pub loop-index-preserved : goal.loop-index-preserved
 loop-index-preserved c j less =
     let at = c.loop-index.index in
-    let here = subst (MapsPart c.args.level c.args.word c.args.entry at) c.index.ensures.0 (c.is_part.ensures.0 c.if-not-is_part.false) in
+    let here = subst (IsPartOf c.args.level c.args.word c.args.entry at) c.index.ensures.0 (c.is_part.ensures.0 c.if-not-is_part.false) in
     ⊎_elim (λ before. c.loop-index.invariant j before)
-    (λ past. let e : at ≡ j = omega (arith, less, past) in subst (λ k. MapsPart c.args.level c.args.word c.args.entry k (get_or c.args.table.now k 0)) e here)
+    (λ past. let e : at ≡ j = omega (arith, less, past) in subst (λ k. IsPartOf c.args.level c.args.word c.args.entry k (get_or c.args.table.now k 0)) e here)
     (cases_lt j at)
 
 pub returns-then-is_err-clause-exact : goal.returns-then-is_err-clause-exact
