@@ -85,7 +85,7 @@ fn after_page<S: PageSize, L: LevelCount>(reply: &SizeReplyIn<S, L>, takes_execu
 /// # Proved
 ///
 /// ```text
-/// ensures { TellsFlush L.LEVELS (to_call P5.bits call.now) reply.now recursive_index true result }
+/// ensures { TellsFlush L.LEVELS (to_call L.LEVELS P5.bits call.now) reply.now recursive_index true result }
 /// ```
 pub fn flush_after<L: LevelCount, P5: LevelFiveFlags<L>>(
     call: &CallIn<L, P5>,
@@ -113,7 +113,7 @@ pub fn flush_after<L: LevelCount, P5: LevelFiveFlags<L>>(
 /// # Proved
 ///
 /// ```text
-/// ensures { TellsFlush L.LEVELS (to_call P5.bits call.now) reply.now recursive_index loses result }
+/// ensures { TellsFlush L.LEVELS (to_call L.LEVELS P5.bits call.now) reply.now recursive_index loses result }
 /// ```
 pub fn flush_after_change<L: LevelCount, P5: LevelFiveFlags<L>>(
     call: &CallIn<L, P5>,

@@ -34,9 +34,9 @@ pub struct SharedEntry;
 ///
 /// ```text
 /// requires { StoreFits (M.hierarchy mapper.old) (store_of F.FrameStore frames.old) }
-/// ensures step { IfOk result (λ reply. Stepped (M.hierarchy mapper.old) (store_of F.FrameStore frames.old) (to_call P5.bits call) reply (M.hierarchy mapper.new) (F.supply frames.new)) }
-/// ensures free { OnOk result (LeavesFree (M.hierarchy mapper.old) (store_of F.FrameStore frames.old) (to_call P5.bits call) (M.hierarchy mapper.new) (F.supply frames.new)) }
-/// ensures refused { OnErr result ( (KeepsShared (M.hierarchy mapper.old) (indices_of shared) (to_call P5.bits call) → ⊥) × (mapper.new ≡ mapper.old) × (frames.new ≡ frames.old)) }
+/// ensures step { IfOk result (λ reply. Stepped (M.hierarchy mapper.old) (store_of F.FrameStore frames.old) (to_call L.LEVELS P5.bits call) reply (M.hierarchy mapper.new) (F.supply frames.new)) }
+/// ensures free { OnOk result (LeavesFree (M.hierarchy mapper.old) (store_of F.FrameStore frames.old) (to_call L.LEVELS P5.bits call) (M.hierarchy mapper.new) (F.supply frames.new)) }
+/// ensures refused { OnErr result ( (KeepsShared (M.hierarchy mapper.old) (indices_of shared) (to_call L.LEVELS P5.bits call) → ⊥) × (mapper.new ≡ mapper.old) × (frames.new ≡ frames.old)) }
 /// ensures spaces { KeepsSpaces (indices_of shared) (M.hierarchy mapper.old) (store_of F.FrameStore frames.old) (M.hierarchy mapper.new) (F.supply frames.new) }
 /// ensures keeps { Keeps (M.hierarchy mapper.old) (store_of F.FrameStore frames.old) (M.hierarchy mapper.new) (store_of F.FrameStore frames.new) }
 /// ```
@@ -65,7 +65,7 @@ pub fn run_call_in_space<L: LevelCount, P5: LevelFiveFlags<L>, M: TableAccess + 
 ///
 /// ```text
 /// requires { Valid (M.hierarchy mapper.now) }
-/// ensures { IsTrue result ↔ KeepsShared (M.hierarchy mapper.now) (indices_of shared) (to_call P5.bits call.now) }
+/// ensures { IsTrue result ↔ KeepsShared (M.hierarchy mapper.now) (indices_of shared) (to_call L.LEVELS P5.bits call.now) }
 /// ```
 pub fn keeps_shared_entries<L: LevelCount, P5: LevelFiveFlags<L>, M: TableAccess + TablesIn<L> + ?Sized>(
     mapper: &M,

@@ -34,7 +34,7 @@ pub struct PageMap<S: PageSize, L: LevelCount> {
 ///
 /// ```text
 /// requires { Valid (direct_at L.LEVELS (P.places mapping) root laid_in T.tables memory.old) }
-/// ensures answer { result ≡ allows_call (direct_at L.LEVELS (P.places mapping) root laid_in T.tables memory.old) S.LEVEL (call_for map) }
+/// ensures answer { result ≡ allows (direct_at L.LEVELS (P.places mapping) root laid_in T.tables memory.old) (call_for S.LEVEL map) }
 /// ensures kept { T.tables memory.new ≡ T.tables memory.old }
 /// ensures lent { T.lent memory.new ≡ T.lent memory.old }
 /// ```
@@ -65,7 +65,7 @@ pub fn may_map<S: PageSize, L: LevelCount, T: TableMemory, P: PageTableFrameMapp
 /// # Proved
 ///
 /// ```text
-/// requires may { MayAskMap (direct_at L.LEVELS (P.places mapping) root laid_in T.tables memory.old) (A.supply frame_allocator.old) S.LEVEL (call_for map) }
+/// requires may { MayMap (direct_at L.LEVELS (P.places mapping) root laid_in T.tables memory.old) (A.supply frame_allocator.old) (call_for S.LEVEL map) }
 /// requires count { length (A.supply frame_allocator.old) ≡ free_frames }
 /// ensures maps { let layout = direct_at L.LEVELS (P.places mapping) root in MapsOrNothing (layout laid_in T.tables memory.old) (supply_of A.FrameAllocator frame_allocator.old) S.LEVEL map (map_answer map.frame result) (layout laid_in T.tables memory.new) (supply_of A.FrameAllocator frame_allocator.new) }
 /// ensures refused { OnErr result ((memory.new ≡ memory.old) × (frame_allocator.new ≡ frame_allocator.old)) }

@@ -52,7 +52,7 @@ pub fn may_prepare<S: PageSize, L: LevelCount, T: TableMemory, P: PageTableFrame
 /// # Proved
 ///
 /// ```text
-/// requires may { MayAskMap (direct_at L.LEVELS (P.places mapping) root laid_in T.tables memory.old) (A.supply frame_allocator.old) S.LEVEL (MapToWithTableFlags page 0 0 (bits_of parent_flags)) }
+/// requires may { MayMap (direct_at L.LEVELS (P.places mapping) root laid_in T.tables memory.old) (A.supply frame_allocator.old) (MapToWithTableFlags S.LEVEL page 0 0 (bits_of parent_flags)) }
 /// requires count { length (A.supply frame_allocator.old) ≡ free_frames }
 /// ensures prepares { let layout = direct_at L.LEVELS (P.places mapping) root in Prepares (layout laid_in T.tables memory.old) (supply_of A.FrameAllocator frame_allocator.old) S.LEVEL page (bits_of parent_flags) (tables_refusal result) (layout laid_in T.tables memory.new) (supply_of A.FrameAllocator frame_allocator.new) }
 /// ensures refused { OnErr result ((memory.new ≡ memory.old) × (frame_allocator.new ≡ frame_allocator.old)) }

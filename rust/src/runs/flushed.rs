@@ -27,8 +27,8 @@ use core::cmp::max;
 ///
 /// ```text
 /// requires { StoreFits (M.hierarchy mapper.old) (store_of F.FrameStore frames.old) }
-/// ensures ran { OnOk result (Ran (to_call P5.bits) (M.hierarchy mapper.old) (store_of F.FrameStore frames.old) calls.now replies.old.items replies.new.items (M.hierarchy mapper.new) (F.supply frames.new)) }
-/// ensures flushed { OnOk result ( Flushed (to_call P5.bits) (M.hierarchy mapper.old) (store_of F.FrameStore frames.old) calls.now replies.old.items replies.new.items recorder.old.items recorder.new.items (M.hierarchy mapper.new)) }
+/// ensures ran { OnOk result (Ran (to_call L.LEVELS P5.bits) (M.hierarchy mapper.old) (store_of F.FrameStore frames.old) calls.now replies.old.items replies.new.items (M.hierarchy mapper.new) (F.supply frames.new)) }
+/// ensures flushed { OnOk result ( Flushed (to_call L.LEVELS P5.bits) (M.hierarchy mapper.old) (store_of F.FrameStore frames.old) calls.now replies.old.items replies.new.items recorder.old.items recorder.new.items (M.hierarchy mapper.new)) }
 /// ensures unchanged { OnErr result ((replies.new ≡ replies.old) × (recorder.new ≡ recorder.old) × (mapper.new ≡ mapper.old) × (frames.new ≡ frames.old)) }
 /// ensures needs_room { OnErr result ((vec_capacity replies.old < vec_len replies.old + length calls.now) ⊎ (recorder.old.room < length calls.now)) }
 /// ensures keeps { Keeps (M.hierarchy mapper.old) (store_of F.FrameStore frames.old) (M.hierarchy mapper.new) (store_of F.FrameStore frames.new) }

@@ -52,12 +52,6 @@ impl PlainMachine {
         self.map_allowed(paths, page, flags, parent_part(flags))
     }
 
-    /// Returns true if a map of the page of a level at the frame's own address is allowed.
-    fn is_identity_map_allowed(&self, paths: &PathEntries, level: usize, frame: u64, flags: u64) -> Result<bool, AllocError> {
-        let page = path_at(self.levels, level, frame)?;
-        Ok((frame < lower_half(self.levels)) & self.map_to_allowed(paths, &page, flags))
-    }
-
     /// Returns true if `set_flags` is refused, whatever the flags.
     fn set_flags_refuses(&self, paths: &PathEntries, level: usize, page: &[u64]) -> bool {
         let path = front_at(self.levels, level, page);
@@ -82,15 +76,32 @@ impl PlainMachine {
 
     /// Returns true if a call is allowed.
     pub fn is_allowed(&self, paths: &PathEntries, call: &PlainCall) -> Result<bool, AllocError> {
-        match call {
-            PlainCall::MapTo { page, flags, .. } => Ok(self.map_to_allowed(paths, page, *flags)),
-            PlainCall::MapToWithTableFlags { page, flags, parent_flags, .. } => {
-                Ok(self.map_allowed(paths, page, *flags, *parent_flags))
+        let levels = self.levels;
+        match *call {
+            PlainCall::MapTo { page, flags, .. } => {
+                let path = path_at(levels, page.level, page.position)?;
+                Ok(self.map_to_allowed(paths, &path, flags))
             }
-            PlainCall::IdentityMap { level, frame, flags } => self.is_identity_map_allowed(paths, *level, *frame, *flags),
-            PlainCall::Unmap { page } => Ok(!begins_with(self.window, page)),
-            PlainCall::UpdateFlags { page, flags } => Ok(no_address(*flags) & !begins_with(self.window, page)),
-            PlainCall::SetFlags { level, page, flags } => Ok(self.is_set_flags_allowed(paths, *level, page, *flags)),
+            PlainCall::MapToWithTableFlags { page, flags, parent_flags, .. } => {
+                let path = path_at(levels, page.level, page.position)?;
+                Ok(self.map_allowed(paths, &path, flags, parent_flags))
+            }
+            PlainCall::IdentityMap { level, frame, flags } => {
+                let path = path_at(levels, level, frame)?;
+                Ok((frame < lower_half(levels)) & self.map_to_allowed(paths, &path, flags))
+            }
+            PlainCall::Unmap { page } => {
+                let path = path_at(levels, page.level, page.position)?;
+                Ok(!begins_with(self.window, &path))
+            }
+            PlainCall::UpdateFlags { page, flags } => {
+                let path = path_at(levels, page.level, page.position)?;
+                Ok(no_address(flags) & !begins_with(self.window, &path))
+            }
+            PlainCall::SetFlags { level, page, flags } => {
+                let path = path_at(levels, page.level, page.position)?;
+                Ok(self.is_set_flags_allowed(paths, level, &path, flags))
+            }
             PlainCall::TranslatePage { .. }
             | PlainCall::Translate { .. }
             | PlainCall::TranslateAddress { .. }

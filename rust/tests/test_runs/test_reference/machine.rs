@@ -5,7 +5,7 @@ use x86_64_paging::support::Vec;
 
 use crate::test_reference::cleaning::CleanUpRange;
 use crate::test_reference::entries::PathEntries;
-use crate::test_reference::plain_calls::{PlainCall, PlainReply, Translated};
+use crate::test_reference::plain_calls::{PlainCall, PlainPage, PlainReply, Translated};
 use crate::test_reference::positions::path_at;
 use crate::test_reference::translations::translate;
 use crate::test_reference::windows::PlainWindow;
@@ -59,20 +59,15 @@ impl PlainMachine {
     fn map(
         &self,
         state: &mut PlainState,
-        page: &[u64],
+        page: PlainPage,
         frame: u64,
         flags: u64,
         parent_flags: u64,
     ) -> Result<PlainReply, AllocError> {
+        let path = path_at(self.levels, page.level, page.position)?;
         let (paths, pool) = (&mut state.paths, &mut state.pool);
-        let answer = self.map_call(paths, pool, page, frame, flags, parent_flags)?;
+        let answer = self.map_call(paths, pool, &path, frame, flags, parent_flags)?;
         Ok(PlainReply::Answered(answer))
-    }
-
-    /// Maps the page of a level that starts at the frame's own address.
-    fn map_identity(&self, state: &mut PlainState, level: usize, frame: u64, flags: u64) -> Result<PlainReply, AllocError> {
-        let page = path_at(self.levels, level, frame)?;
-        self.map(state, &page, frame, flags, parent_part(flags))
     }
 
     /// Frees the empty tables of the positions from low to high.
@@ -85,37 +80,38 @@ impl PlainMachine {
 
     /// Carries out an allowed call.
     fn do_call(&self, state: &mut PlainState, call: &PlainCall) -> Result<PlainReply, AllocError> {
-        match call {
-            PlainCall::MapTo { page, frame, flags } => self.map(state, page, *frame, *flags, parent_part(*flags)),
+        let levels = self.levels;
+        match *call {
+            PlainCall::MapTo { page, frame, flags } => self.map(state, page, frame, flags, parent_part(flags)),
             PlainCall::MapToWithTableFlags { page, frame, flags, parent_flags } => {
-                self.map(state, page, *frame, *flags, *parent_flags)
+                self.map(state, page, frame, flags, parent_flags)
             }
-            PlainCall::IdentityMap { level, frame, flags } => self.map_identity(state, *level, *frame, *flags),
+            PlainCall::IdentityMap { level, frame, flags } => {
+                let position = frame;
+                self.map(state, PlainPage { level, position }, frame, flags, parent_part(flags))
+            }
             PlainCall::Unmap { page } => {
-                let answer = self.unmap(&mut state.paths, page)?;
-                Ok(PlainReply::Answered(answer))
+                let path = path_at(levels, page.level, page.position)?;
+                Ok(PlainReply::Answered(self.unmap(&mut state.paths, &path)?))
             }
             PlainCall::UpdateFlags { page, flags } => {
-                let answer = self.update_flags(&mut state.paths, page, *flags)?;
-                Ok(PlainReply::Answered(answer))
+                let path = path_at(levels, page.level, page.position)?;
+                Ok(PlainReply::Answered(self.update_flags(&mut state.paths, &path, flags)?))
             }
             PlainCall::SetFlags { level, page, flags } => {
-                let answer = self.set_flags(&mut state.paths, *level, page, *flags)?;
-                Ok(PlainReply::Answered(answer))
+                let path = path_at(levels, page.level, page.position)?;
+                Ok(PlainReply::Answered(self.set_flags(&mut state.paths, level, &path, flags)?))
             }
             PlainCall::TranslatePage { page } => {
-                let answer = self.translate_page(&state.paths, page);
-                Ok(PlainReply::Answered(answer))
+                let path = path_at(levels, page.level, page.position)?;
+                Ok(PlainReply::Answered(self.translate_page(&state.paths, &path)))
             }
-            PlainCall::Translate { position } => {
-                let translated = self.translate(&state.paths, *position)?;
-                Ok(PlainReply::Position(translated))
-            }
+            PlainCall::Translate { position } => Ok(PlainReply::Position(self.translate(&state.paths, position)?)),
             PlainCall::TranslateAddress { position } => {
-                let translated = self.translate(&state.paths, *position)?;
+                let translated = self.translate(&state.paths, position)?;
                 Ok(PlainReply::Address(address_of(translated)))
             }
-            PlainCall::CleanUp { low, high } => self.clean_up(state, *low, *high),
+            PlainCall::CleanUp { low, high } => self.clean_up(state, low, high),
         }
     }
 

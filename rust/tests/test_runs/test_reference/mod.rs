@@ -15,5 +15,5 @@ pub mod words;
 
 pub use entries::PathEntries;
 pub use machine::{PlainMachine, PlainState};
-pub use plain_calls::{Answer, PlainCall, PlainReply, Refusal, Translated};
+pub use plain_calls::{Answer, PlainCall, PlainPage, PlainReply, Refusal, Translated};
 pub use windows::PlainWindow;

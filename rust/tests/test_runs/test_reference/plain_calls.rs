@@ -1,8 +1,5 @@
 //! Calls, replies and refusals.
 
-use crate::more::MoreOfVec;
-use x86_64_paging::support::Vec;
-
 /// The reason why a call on a page is refused.
 #[derive(Clone, Copy, Debug, PartialEq, Eq)]
 pub enum Refusal {
@@ -36,23 +33,32 @@ pub enum Translated {
     Mapped { size: u64, frame: u64, offset: u64, flags: u64 },
 }
 
-/// A call. A page is named by the path of its entry, a frame by its address.
-#[derive(Debug)]
+/// A page.
+#[derive(Clone, Copy, Debug, PartialEq, Eq)]
+pub struct PlainPage {
+    /// The level of the entry that maps it.
+    pub level: usize,
+    /// The position of its start.
+    pub position: u64,
+}
+
+/// A call. A frame is named by its address.
+#[derive(Clone, Copy, Debug, PartialEq, Eq)]
 pub enum PlainCall {
     /// Maps a page to a frame.
-    MapTo { page: Vec<u64>, frame: u64, flags: u64 },
+    MapTo { page: PlainPage, frame: u64, flags: u64 },
     /// Maps a page to a frame, with flags for the page's parents.
-    MapToWithTableFlags { page: Vec<u64>, frame: u64, flags: u64, parent_flags: u64 },
+    MapToWithTableFlags { page: PlainPage, frame: u64, flags: u64, parent_flags: u64 },
     /// Maps the page of a level that starts at the frame's own address to the frame.
     IdentityMap { level: usize, frame: u64, flags: u64 },
     /// Unmaps a page.
-    Unmap { page: Vec<u64> },
+    Unmap { page: PlainPage },
     /// Sets the flags of a mapped page.
-    UpdateFlags { page: Vec<u64>, flags: u64 },
+    UpdateFlags { page: PlainPage, flags: u64 },
     /// Sets the flags of the entry of a level on the page's path.
-    SetFlags { level: usize, page: Vec<u64>, flags: u64 },
+    SetFlags { level: usize, page: PlainPage, flags: u64 },
     /// Returns the frame of a mapped page.
-    TranslatePage { page: Vec<u64> },
+    TranslatePage { page: PlainPage },
     /// Translates a position.
     Translate { position: u64 },
     /// Returns the physical address to which a position is mapped.
