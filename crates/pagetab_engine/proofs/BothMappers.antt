@@ -2,7 +2,8 @@
 use Rattle.std.proofs.Common.{◌≡◌, ◌<◌, ℕ, Bool, true, false, cond, List, [], ◌∷◌, map, Option, Some, None, option_map, refl, ap, subst, lit<}
 use Rattle.std.proofs.lemmas.List.Sorted.{IsPermutation-refl}
 use Rattle.x86_64_model.specs.Alike.{Alike}
-use Rattle.x86_64_model.specs.Call as machine
+use Rattle.x86_64_model.specs.Call as model
+use Rattle.x86_64_model.specs.Call.{IsCall}
 use Rattle.x86_64_model.specs.Hierarchy.{◌laid_in◌, PoolFits, machine_of}
 use Rattle.x86_64_model.specs.Laws.Steps.{FitsState}
 use Rattle.x86_64_model.specs.Layout.{Layout}
@@ -88,7 +89,7 @@ module _ (levels : Levels) (index entry : ℕ) where
       pub pair : ArePair serves x.state y.state
       pub reply : x.reply ≡ y.reply
 
-    module _ (s t : State) (pair : ArePair serves s t) (call : machine.Call) (is : machine.IsCall L call) where
+    module _ (s t : State) (pair : ArePair serves s t) (call : model.Call) (is : IsCall L call) where
       call_made : is_refused mode call ≡ false → AreAfter (step_by one s call) (step_by two t call)
       call_made unnamed =
           let runs = pairs_reply_alike one two refl refl gives_first no_flags present_writable pair.fits.0 pair.other_fits.0 0x1000 0x1000 serves serves
@@ -96,7 +97,7 @@ module _ (levels : Levels) (index entry : ℕ) where
           s t pair.fits.1 pair.other_fits.1 pair.alike pair.pools in
           let held = step_is_held one (record { adds = no_flags.adds; gives = gives_first }) pair.fits.0 0x1000 serves s call is pair.fits.1 in
           let other_held = step_is_held two (record { adds = present_writable.adds; gives = gives_first }) pair.other_fits.0 0x1000 serves t call is pair.other_fits.1 in
-          let same : (step one s call).reply ≡ (step two t call).reply = let all : ◌≡◌ {A = List machine.Reply} ((step one s call).reply ∷ []) ((step two t call).reply ∷ []) = runs.replies in cc in
+          let same : (step one s call).reply ≡ (step two t call).reply = let all : ◌≡◌ {A = List model.Reply} ((step one s call).reply ∷ []) ((step two t call).reply ∷ []) = runs.replies in cc in
           record {
             pair = record { alike = runs.paths; pools = runs.pools; fits = (held.0, held.1); other_fits = (other_held.0, other_held.1) };
             reply = ap (reply_of call) same;

@@ -1,9 +1,9 @@
--- Each call that a line writes is one that the machine has with this number of levels.
-use Rattle.std.proofs.Common.{◌≡◌, ◌==◌, ◌+◌, ◌≤◌, ◌<◌, ℕ, nat_le, Bool, true, false, cond, List, [], ◌∷◌, length, Option, Some, None, option_and_then, option_map, refl, arith, lit≤, eqb-true}
+-- Each call that a line writes is possible with this number of levels.
+use Rattle.std.proofs.Common.{◌≡◌, ◌==◌, ◌+◌, ◌-◌, ◌≤◌, ◌<◌, ℕ, nat_le, Bool, true, false, cond, List, [], ◌∷◌, length, Option, Some, None, option_and_then, option_map, refl, arith, lit≤, eqb-true}
 use Rattle.std.specs.Bool.{⊤}
-use Rattle.x86_64_model.specs.Call as machine
-use Rattle.x86_64_model.specs.Call.{MapTo, MapToWithTableFlags, IdentityMap, Unmap, UpdateFlags, SetFlags, TranslatePage, Translate, TranslateAddress, CleanUp}
-use Rattle.x86_64_model.specs.Position.{span}
+use Rattle.x86_64_model.specs.Call as model
+use Rattle.x86_64_model.specs.Call.{IsCall, IsPageLevel, MapTo, MapToWithTableFlags, IdentityMap, Unmap, UpdateFlags, SetFlags, TranslatePage, Translate, TranslateAddress, CleanUp}
+use Rattle.x86_64_model.specs.Position.{position_count, span}
 use Rattle.pagetab_engine.specs.Commands.{Command, Call, Walk, Show, Pool, Statement, Image, Asks}
 use Rattle.pagetab_engine.specs.Fields.{Parts, fields_of, parts_in}
 use Rattle.pagetab_engine.specs.PageCalls.{call_in, level_of}
@@ -30,41 +30,35 @@ found P make all None = tt
 found P make all (Some a) = all a
 
 module _ (levels : ℕ) (some : 3 < levels) where
-  abbrev Is : machine.Call → Type 0
-  Is call = machine.IsCall levels call
+  module _ (level : ℕ) (is : IsPageLevel levels level) where
+    abbrev page : ℕ → Option ℕ
+    page start = page_in levels (span level) start
 
-  module _ (level : ℕ) (is : machine.IsPageLevel levels level) where
-    sets : (at : ℕ) → 2 ≤ at → at ≤ levels → (page flags : ℕ) → Holds Is (option_map (λ page. SetFlags at level page flags) (page_in levels (span level) page))
-    sets at low high page flags = made Is (λ page. SetFlags at level page flags) (λ page. (low, high, is)) (page_in levels (span level) page)
+    abbrev frame : ℕ → Option ℕ
+    frame start = frame_in (span level) start
 
-    of_five : (page flags : ℕ) (five : Bool) → (levels == 5) ≡ five → Holds Is (cond five (option_map (λ page. SetFlags 5 level page flags) (page_in levels (span level) page)) None)
-    of_five page flags false same = tt
-    of_five page flags true same = sets 5 (lit≤ tt) (let five = eqb-true levels 5 same in omega (arith, five)) page flags
+    of_five : (start flags : ℕ) (five : Bool) → (levels == 5) ≡ five → Holds (IsCall levels) (cond five (option_map (λ page. SetFlags 5 level page flags) (page start)) None)
+    of_five start flags false none = tt
+    of_five start flags true five = made (IsCall levels) (λ page. SetFlags 5 level page flags) (λ page. (lit≤ tt, (let same = eqb-true levels 5 five in omega (arith, same)), is)) (page start)
 
-    paged : (name : Name) (numbers : List ℕ) → Holds Is (call_in levels level name numbers)
-    paged name.Map (page ∷ frame ∷ flags ∷ []) = found Is (λ page. option_map (λ frame. MapTo level page frame flags) (frame_in (span level) frame))
-        (λ page. made Is (λ frame. MapTo level page frame flags) (λ frame. is) (frame_in (span level) frame)) (page_in levels (span level) page)
-    paged name.MapWith (page ∷ frame ∷ flags ∷ more ∷ []) = found Is (λ page. option_map (λ frame. MapToWithTableFlags level page frame flags more) (frame_in (span level) frame))
-        (λ page. made Is (λ frame. MapToWithTableFlags level page frame flags more) (λ frame. is) (frame_in (span level) frame)) (page_in levels (span level) page)
-    paged name.Identity (frame ∷ flags ∷ []) = made Is (λ frame. IdentityMap level frame flags) (λ frame. is) (frame_in (span level) frame)
-    paged name.Unmap (page ∷ []) = made Is (Unmap level) (λ page. is) (page_in levels (span level) page)
-    paged name.Update (page ∷ flags ∷ []) = made Is (λ page. UpdateFlags level page flags) (λ page. is) (page_in levels (span level) page)
-    paged name.P5 (page ∷ flags ∷ []) = of_five page flags (levels == 5) refl
-    paged name.P4 (page ∷ flags ∷ []) = sets 4 (lit≤ tt) (omega (arith, some)) page flags
-    paged name.P3 (page ∷ flags ∷ []) = sets 3 (lit≤ tt) (omega (arith, some)) page flags
-    paged name.P2 (page ∷ flags ∷ []) = sets 2 (lit≤ tt) (omega (arith, some)) page flags
-    paged name.TranslatePage (page ∷ []) = made Is (TranslatePage level) (λ page. is) (page_in levels (span level) page)
+    paged : (name : Name) (numbers : List ℕ) → Holds (IsCall levels) (call_in levels level name numbers)
+    paged name.Map (start ∷ at ∷ flags ∷ []) = found (IsCall levels) (λ page. option_map (λ frame. MapTo level page frame flags) (frame at))
+        (λ page. made (IsCall levels) (λ frame. MapTo level page frame flags) (λ frame. is) (frame at)) (page start)
+    paged name.MapWith (start ∷ at ∷ flags ∷ more ∷ []) = found (IsCall levels) (λ page. option_map (λ frame. MapToWithTableFlags level page frame flags more) (frame at))
+        (λ page. made (IsCall levels) (λ frame. MapToWithTableFlags level page frame flags more) (λ frame. is) (frame at)) (page start)
+    paged name.Identity (at ∷ flags ∷ []) = made (IsCall levels) (λ frame. IdentityMap level frame flags) (λ frame. is) (frame at)
+    paged name.Unmap (start ∷ []) = made (IsCall levels) (Unmap level) (λ page. is) (page start)
+    paged name.Update (start ∷ flags ∷ []) = made (IsCall levels) (λ page. UpdateFlags level page flags) (λ page. is) (page start)
+    paged name.P5 (start ∷ flags ∷ []) = of_five start flags (levels == 5) refl
+    paged name.P4 (start ∷ flags ∷ []) = made (IsCall levels) (λ page. SetFlags 4 level page flags) (λ page. (lit≤ tt, omega (arith, some), is)) (page start)
+    paged name.P3 (start ∷ flags ∷ []) = made (IsCall levels) (λ page. SetFlags 3 level page flags) (λ page. (lit≤ tt, omega (arith, some), is)) (page start)
+    paged name.P2 (start ∷ flags ∷ []) = made (IsCall levels) (λ page. SetFlags 2 level page flags) (λ page. (lit≤ tt, omega (arith, some), is)) (page start)
+    paged name.TranslatePage (start ∷ []) = made (IsCall levels) (TranslatePage level) (λ page. is) (page start)
     paged name numbers = tt
 
-  -- the level of a size is that of a page
-  is_level : (size : Size) → machine.IsPageLevel levels (level_of size)
-  is_level Size4KiB = (lit≤ tt, lit≤ tt, omega (arith, some))
-  is_level Size2MiB = (lit≤ tt, lit≤ tt, omega (arith, some))
-  is_level Size1GiB = (lit≤ tt, lit≤ tt, omega (arith, some))
-
-  -- the statement is a call that the machine has, if it is a call
+  -- the statement is a possible call, if it is a call
   abbrev pub IsMachines : Statement → Type 0
-  IsMachines (Asks (Call call)) = Is call
+  IsMachines (Asks (Call call)) = IsCall levels call
   IsMachines statement = ⊤
 
   -- each line that isn't a bad one is such a statement
@@ -72,9 +66,14 @@ module _ (levels : ℕ) (some : 3 < levels) where
   AreMachines [] = ⊤
   AreMachines ((number, said) ∷ lines) = Holds IsMachines said × AreMachines lines
 
-  of_page : (call : Option machine.Call) → Holds Is call → Holds IsMachines (option_map (λ call. Asks (Call call)) call)
-  of_page None is = tt
-  of_page (Some call) is = is
+  page_level : (size : Size) → IsPageLevel levels (level_of size)
+  page_level Size4KiB = (lit≤ tt, lit≤ tt, omega (arith, some))
+  page_level Size2MiB = (lit≤ tt, lit≤ tt, omega (arith, some))
+  page_level Size1GiB = (lit≤ tt, lit≤ tt, omega (arith, some))
+
+  asked : (call : Option model.Call) → Holds (IsCall levels) call → Holds IsMachines (option_map (λ call. Asks (Call call)) call)
+  asked None is = tt
+  asked (Some call) is = is
 
   module _ (places : ℕ) where
     plain : (name : Name) (numbers : List ℕ) → Holds IsMachines (plain_in levels places name numbers)
@@ -92,7 +91,7 @@ module _ (levels : ℕ) (some : 3 < levels) where
 
     written_by : (name : Name) (size : Option Size) (numbers : List ℕ) → Holds IsMachines (statement_by levels places name size numbers)
     written_by name None numbers = plain name numbers
-    written_by name (Some size) numbers = of_page (call_in levels (level_of size) name numbers) (paged (level_of size) (is_level size) name numbers)
+    written_by name (Some size) numbers = asked (call_in levels (level_of size) name numbers) (paged (level_of size) (page_level size) name numbers)
 
     pub written : (line : List ℕ) → Holds IsMachines (statement_in levels places line)
     written line = by (nat_le (length line) 256)
