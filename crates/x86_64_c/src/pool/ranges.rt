@@ -82,8 +82,8 @@ impl<R: RangeStep + Copy> Operation for RangeOperation<R> {
 
     ghost does = { λ new h array after left stepped.
         Leaves new.own.frames array new.free_count left stepped.free_count (λ pool rest.
-        R.does h pool (position_of h.layout.levels new.first) (position_of h.layout.levels new.last) after rest
-        stepped.out) };
+        R.does h pool (position_of h.layout.levels new.first) (position_of h.layout.levels new.last)
+        after rest stepped.out) };
 
     fn execute<L: LevelCount, T: TableMemory, P: PageTableFrameMapping + Copy>(
         &self,

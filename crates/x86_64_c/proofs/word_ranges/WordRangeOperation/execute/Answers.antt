@@ -20,8 +20,8 @@ returns-in-Take-clause-does g c =
       exchanges h used _ _ _ _ range.first range.last (λ _. 0) seen.end _ c.take_range-seen.ensures.changes,
     )
 
-pub returns-in-Change-clause-does : goal.returns-in-Change-clause-does
-returns-in-Change-clause-does g c =
+pub returns-else-not-are_flag_masks-clause-does : goal.returns-else-not-are_flag_masks-clause-does
+returns-else-not-are_flag_masks-clause-does g c =
     let h = at g.P.PageTableFrameMapping.places g.L.LevelCount.LEVELS c.args.located (g.T.TableMemory.tables c.args.memory.now) in
     let range = c.in_ok-range.ensures in let seen = c.change_range-seen.result in let told = c.of-in-Change.ensures in rw c.in-Change.is (
       end_alone seen.end,
