@@ -9,8 +9,8 @@ ghost use Rattle.x86_64_model.specs.Live.{by_masks};
 use crate::arguments::{Hierarchy, Located, range_at};
 use crate::operation::{Operation, enter};
 use crate::status;
-use x86_64::structures::paging::mapper::PageTableFrameMapping;
 use x86_64::structures::paging::PageTable;
+use x86_64::structures::paging::mapper::PageTableFrameMapping;
 use x86_64::{LevelCount, TableMemory};
 use x86_64_live::{
     PageWord, RangeEnd, RangeSeen, RangeStop, are_flag_masks, change_range, list_range, take_range,
