@@ -1,5 +1,5 @@
 use Rattle.std.proofs.Common.{◌≡◌, refl, rules, subst}
-use Rattle.x86_64_model.specs.Call.{Call}
+use Rattle.x86_64_model.specs.Call.{Call, Unmap}
 use Rattle.x86_64_model.specs.Layout.{Layout}
 use Rattle.x86_64_model.specs.Memory.{Memory}
 use Rattle.x86_64_model.specs.Hierarchy.{◌laid_in◌, Hierarchy, Does}
@@ -25,4 +25,4 @@ owner_does h after call answer does layout memory last layout_is memory_is last_
     (subst (λ l. Does (h.layout laid_in h.memory) call answer (l laid_in after.memory)) does.layout alike)))
 
 pub returns : goal.returns
-returns g c = owner_does _ _ _ _ c.unmap_by_layer.ensures _ _ _ c.new-mapper.ensures.layout c.new-mapper.ensures.memory (search rules)
+returns g c = owner_does _ _ (Unmap g.S.PageSize.LEVEL c.args.page) _ c.unmap_by_layer.ensures _ _ _ c.new-mapper.ensures.layout c.new-mapper.ensures.memory (search rules)
