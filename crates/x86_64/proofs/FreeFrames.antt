@@ -62,7 +62,7 @@ module _ (l : Layout) (mapping : IsMapping l.places) (serves : ℕ → Bool) (m 
 -- a call on a page returns no frame
 pub page_keeps_free : (l : Layout) (m : Memory) (pool : List ℕ) (level : ℕ) (call : Call) → IsOnPage level call → (n : Memory) (rest : List ℕ) → KeepsFree l m pool [] n rest
     → KeepsFree l m pool (freed_by l.levels (state_in l m pool) call) n rest
-page_keeps_free l m pool level (CleanUp low high) on n rest keeps = absurd on
+page_keeps_free l m pool level (CleanUp low high) on n rest keeps = cc
 page_keeps_free l m pool level call on n rest keeps = keeps
 
 -- ---- calls one after another
