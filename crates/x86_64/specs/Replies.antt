@@ -85,17 +85,17 @@ sized replies (machine.Answered answer) (suc (suc zero)) = option_map reply.Of2M
 sized replies (machine.Answered answer) (suc (suc (suc zero))) = option_map reply.Of1GiB (replies Giant answer)
 sized replies r level = None
 
--- What a function gives for a call on a page, or `None` for any other call. The function takes the level of the page, and what the
--- machine's answer means for a page of the size S.
+-- The result of `by` for a call on a page, or `None` for any other call. It takes the level of the page, and the reply that the machine's
+-- answer becomes for a page of the size S.
 abbrev pub if_on_page : {R : Type 0} → ((level : ℕ) → (replies : (S : Type 0) → Answer → Option (SizeReply S)) → Option R) → Call → Option R
-if_on_page gives (MapTo level page frame flags) = gives level (λ S. result_reply page_reply.Map (λ mapped. page) map_error)
-if_on_page gives (MapToWithTableFlags level page frame flags parent_flags) = gives level (λ S. result_reply page_reply.Map (λ mapped. page) map_error)
-if_on_page gives (IdentityMap level frame flags) = gives level (λ S. result_reply page_reply.Map (λ mapped. frame) map_error)
-if_on_page gives (Unmap level page) = gives level (λ S. result_reply page_reply.Unmap (λ frame. (frame, page)) unmap_error)
-if_on_page gives (UpdateFlags level page flags) = gives level (λ S. result_reply page_reply.Update (λ frame. page) update_error)
-if_on_page gives (SetFlags at level page flags) = gives level (λ S. result_reply page_reply.TableFlags (λ frame. tt) update_error)
-if_on_page gives (TranslatePage level page) = gives level (λ S. result_reply page_reply.Frame (λ frame. frame) translate_error)
-if_on_page gives call = None
+if_on_page by (MapTo level page frame flags) = by level (λ S. result_reply page_reply.Map (λ mapped. page) map_error)
+if_on_page by (MapToWithTableFlags level page frame flags parent_flags) = by level (λ S. result_reply page_reply.Map (λ mapped. page) map_error)
+if_on_page by (IdentityMap level frame flags) = by level (λ S. result_reply page_reply.Map (λ mapped. frame) map_error)
+if_on_page by (Unmap level page) = by level (λ S. result_reply page_reply.Unmap (λ frame. (frame, page)) unmap_error)
+if_on_page by (UpdateFlags level page flags) = by level (λ S. result_reply page_reply.Update (λ frame. page) update_error)
+if_on_page by (SetFlags at level page flags) = by level (λ S. result_reply page_reply.TableFlags (λ frame. tt) update_error)
+if_on_page by (TranslatePage level page) = by level (λ S. result_reply page_reply.Frame (λ frame. frame) translate_error)
+if_on_page by call = None
 
 -- The reply to a call for the machine's reply, or `None` if the machine never replies to this call so.
 abbrev pub reply_of : Call → machine.Reply → Option Reply

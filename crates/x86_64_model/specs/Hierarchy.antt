@@ -8,7 +8,7 @@ use Rattle.x86_64_model.specs.Entry.{writable, user, address}
 use Rattle.x86_64_model.specs.Lists.{In}
 use Rattle.x86_64_model.specs.Machine.{Machine, State, do_call}
 use Rattle.x86_64_model.specs.MapRule.{AfterMap, map_call, parent_part}
-use Rattle.x86_64_model.specs.Memory.{Memory, Words, word, Places, words_of}
+use Rattle.x86_64_model.specs.Memory.{Memory, Words, word, words_of}
 use Rattle.x86_64_model.specs.PageRules.{AfterChange, unmap, update_flags, set_flags, translate_page}
 use Rattle.x86_64_model.specs.PageWalk.{Walked, page_walk}
 use Rattle.x86_64_model.specs.Path.{front_at, path_at}
@@ -91,13 +91,9 @@ Owns h supply f = IsOwn h.layout.levels h.layout.root (paths h) supply f
 abbrev pub Uses : {Lent : Type 0} → Hierarchy Lent → (supply rest : List ℕ) → (frame : ℕ) → Type 0
 Uses h supply rest f = Owns h supply f × (In rest f → ⊥)
 
--- From the memory m to the memory n, every place where none of these frames lies keeps its words.
-abbrev pub KeepsOutside : Places → (frames : ℕ → Type 0) → Memory → Memory → Type 0
-KeepsOutside places frames m n = (k : ℕ) → ((f : ℕ) → frames f → places.place f ≢ k) → get n k ≡ get m k
-
--- From a hierarchy to the one after it, only words in these frames change.
+-- From a hierarchy to the one after it, only words in these frames change: every place where none of them lies keeps its words.
 abbrev pub KeepsOthers : {Lent : Type 0} → (frames : ℕ → Type 0) → (h after : Hierarchy Lent) → Type 0
-KeepsOthers frames h after = KeepsOutside h.layout.places frames h.memory after.memory
+KeepsOthers frames h after = (k : ℕ) → ((f : ℕ) → frames f → h.layout.places.place f ≢ k) → get after.memory k ≡ get h.memory k
 
 -- What each call keeps that changes words in these frames alone: the hierarchy is valid again, the words elsewhere stay, and so do
 -- its layout and what was lent.
