@@ -52,7 +52,6 @@ table_room L (suc n) p low high inside =
     omega (arith, parts, whole, table, at, most)
 
 module _ (L : ℕ) (T : Words) (root : ℕ) where
-
   -- the entries of a table from the one that spans the position on
   pub on_table : (next level : ℕ) (r : Rights) (frame : ℕ) (table : List ℕ) → 1 ≤ level → level ≤ L → next < position_count L
       → LeadsTo L T root next level r frame → T frame ≡ Some table → length table ≡ 512 → IsOn L T root next level r (drop (index level next) table)
