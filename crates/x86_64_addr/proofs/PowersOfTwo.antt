@@ -1,6 +1,7 @@
 -- Powers of two are the numbers with one bit set.
-use Rattle.std.proofs.Common.{◌≡◌, ⊎_elim, ℕ, zero, suc, ◌+◌, ◌-◌, ◌*◌, ◌/◌, ◌%◌, ◌^◌, ◌<◌, IsTrue, count_ones, refl, ap, ◌∙◌, arith}
-use Rattle.std.proofs.lemmas.Nat.{ones_cat}
+use Rattle.std.proofs.Common.{◌≡◌, ⊎_elim, ℕ, zero, suc, ◌+◌, ◌-◌, ◌*◌, ◌/◌, ◌%◌, ◌^◌, ◌<◌, ◌==◌, IsTrue, count_ones, refl, ap, ap₂, ◌∙◌, arith}
+use Rattle.std.proofs.lemmas.Grind.{bit_length}
+use Rattle.std.proofs.lemmas.Nat.{ones_cat, pow_pos}
 use Rattle.std.proofs.lemmas.Bool.{cases_lt, eqb-true}
 use Rattle.std.proofs.Math.Nat.{pow-suc}
 use Rattle.std.specs.Int.{IsPowerOfTwo, is_power_of_two}
@@ -58,3 +59,12 @@ below_power (suc n) = omega (arith, below_power n, pow-suc 2 n)
 
 pub power : (n : ℕ) → IsTrue (is_power_of_two n) → IsPowerOfTwo n
 power n t = one_bit n n (below_power n) (eqb-true (count_ones n) 1 t)
+
+-- a power of two passes the test; a numeral's exponent is found by its length
+one_of_power : (k : ℕ) → count_ones (2 ^ k) ≡ 1
+one_of_power k =
+    let parts : 2 ^ k ≡ 1 * 2 ^ k + 0 = omega arith in
+    ap count_ones parts ∙ ones_cat k 1 0 (pow_pos k) ∙ ap₂ (λ a b. a + b) one_of_one none_of_zero
+
+pub numeral_power : (n : ℕ) → n ≡ 2 ^ (bit_length 128 n - 1) → IsTrue (is_power_of_two n)
+numeral_power n e = ap (λ c. c == 1) (ap count_ones e ∙ one_of_power (bit_length 128 n - 1))

@@ -1,5 +1,5 @@
 -- The conditions and effects of a mapper's calls, over one record: the hierarchy that the mapper owns for a while.
-use Rattle.std.specs.Prelude.{◌≢◌, ◌≡◌, ◌<◌, ◌+◌, ℕ, Bool, true, List, ◌∷◌, None, Some, Option}
+use Rattle.std.specs.Prelude.{◌≢◌, ◌≡◌, ◌⊎◌, ◌<◌, ◌+◌, ℕ, Bool, true, List, ◌∷◌, None, Some, Option}
 use Rattle.x86_64_model.specs.Allowed.{allowed, map_allowed, map_call_allowed, refuses}
 use Rattle.x86_64_model.specs.Arrivals.{Arrives}
 use Rattle.x86_64_model.specs.Call.{Call, MapTo, MapToWithTableFlags, IdentityMap, Unmap, UpdateFlags, SetFlags, Answered, parent_flags_of}
@@ -13,7 +13,7 @@ use Rattle.x86_64_model.specs.PageRules.{AfterChange, unmap, update_flags, set_f
 use Rattle.x86_64_model.specs.PageWalk.{Walked, page_walk}
 use Rattle.x86_64_model.specs.Path.{front_at, path_at}
 use Rattle.x86_64_model.specs.PathMap.{PathMap, table_at}
-use Rattle.x86_64_model.specs.Pool.{IsOwn, IsTable, Fits, TakesBack, with_returned}
+use Rattle.x86_64_model.specs.Pool.{IsTable, Fits, TakesBack, with_returned}
 use Rattle.x86_64_model.specs.Refusal.{Answer}
 use Rattle.x86_64_model.specs.Standing.{IsMappedIn}
 use Rattle.x86_64_model.specs.Translation.{Translated, translate}
@@ -85,7 +85,7 @@ HoldsTable h f = IsTable h.layout.levels h.layout.root (paths h) f
 
 -- The frame holds the root or another table of the hierarchy, or is in the supply.
 abbrev pub Owns : {Lent : Type 0} → Hierarchy Lent → (supply : List ℕ) → (frame : ℕ) → Type 0
-Owns h supply f = IsOwn h.layout.levels h.layout.root (paths h) supply f
+Owns h supply f = In supply f ⊎ HoldsTable h f
 
 -- The frame holds the root or another table of the hierarchy, or was taken from the supply, of which the rest is left.
 abbrev pub Uses : {Lent : Type 0} → Hierarchy Lent → (supply rest : List ℕ) → (frame : ℕ) → Type 0

@@ -1,6 +1,6 @@
 -- What setting flags leaves of an entry.
 use Rattle.std.proofs.Common.{◌≡◌, ◌≢◌, ne_eqb, ℕ, ◌==◌, ◌^◌, ◌<◌, true, false, not, bit_and, bit_or, refl, sym, ap, ◌∙◌, arith, min, max, eqb-true, subst, lit<, eq-eqb, ◌%◌, ◌/◌, ◌*◌}
-use Rattle.std.proofs.lemmas.Nat.{and_or_apart, and_assoc, and_comm, or_disjoint, and-not, or_comm}
+use Rattle.std.proofs.lemmas.Nat.{and_or_apart, and_assoc, and_comm, or_disjoint, and-not, and_mask, or_comm}
 use Rattle.std.proofs.lemmas.Nat.Bits.{and_high, same_from_bits, bit_at_and, bit_at_or}
 use Rattle.std.specs.Int.{bit_at}
 use Rattle.x86_64_model.specs.Entry.{is_frame, has, present, address, flags, used}
@@ -69,6 +69,9 @@ no_flag f flag a apart = ap (λ x. bit_and x flag) (sym a) ∙ and_assoc flag f 
 
 pub only_flags : (f x flag : ℕ) → address f ≡ f → bit_and 0x000f_ffff_ffff_f000 flag ≡ 0 → has (bit_or f x) flag ≡ has x flag
 only_flags f x flag a apart = ap (λ e. has e flag) (or_comm f x) ∙ has_or x f flag (no_flag f flag a apart)
+
+pub low_nine : (n : ℕ) → bit_and n 511 ≡ n % 512
+low_nine n = and_mask n 9
 
 pub address_address : (e : ℕ) → address (address e) ≡ address e
 unfolding address
