@@ -12,7 +12,7 @@ use Rattle.ptdump_engine.specs.private.Telling.{AreTold}
 
 -- what a visitor has put in since it began
 pub told_since : {T O X : Type 0} (Lines : O → O → List Said → Type 0) (said : T → X → Option Said) (old new : Teller T O) (xs : List X) (telling : T) (output : O)
-    → old.telling ≡ telling → old.output.now ≡ output → AreTold Lines said old new xs → Lines output new.output.now (filter_map (said telling) xs)
+    → old.telling.now ≡ telling → old.output.now ≡ output → AreTold Lines said old new xs → Lines output new.output.now (filter_map (said telling) xs)
 told_since Lines said old new xs telling output is begun told =
     subst (λ o. Lines o new.output.now (filter_map (said telling) xs)) begun
     (subst (λ t. Lines old.output.now new.output.now (filter_map (said t) xs)) is told.lines)

@@ -1,5 +1,3 @@
-pub mod AliasingLaws
-pub mod AliasingLines
 pub mod Alike
 pub mod Asked
 pub mod Checked

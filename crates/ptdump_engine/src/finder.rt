@@ -48,7 +48,8 @@ pub fn tell_addresses<L: LevelCount, O: LineOutput>(
     ensures { OnOk result (O.Lines output.old output.new (map (said_of_found L.LEVELS physical)
         (mappings_asked summaries.now L.LEVELS root))) }
 {
-    let mut teller = Teller::new(Finder { physical }, output);
+    let finder = Finder { physical };
+    let mut teller = Teller::new(&finder, output);
     visit_mappings::<L, PhysMemory, IdentityMapping, Teller<'_, Finder, O>>(
         summaries,
         root,

@@ -63,14 +63,14 @@ impl<L: LevelCount> Telling<RegionIn<L>> for Listing {
 /// A visitor that puts in the lines for items.
 ///
 /// The destination of the lines is a type parameter so that contracts can identify it once it is returned.
-pub struct Teller<'a, T: Drop, O> {
+pub struct Teller<'a, T, O> {
     /// The destination of the lines.
     output: &'a mut O,
     /// What is said of an item.
-    telling: T,
+    telling: &'a T,
 }
 
-impl<T: Drop, O> Drop for Teller<'_, T, O> {
+impl<T, O> Drop for Teller<'_, T, O> {
     fn drop(self)
         ensures { self.exit.0.now ≡ self.entry.output.now }
     {
@@ -81,18 +81,18 @@ impl<T: Drop, O> Drop for Teller<'_, T, O> {
     }
 }
 
-impl<'a, T: Drop, O: LineOutput> Teller<'a, T, O> {
+impl<'a, T, O: LineOutput> Teller<'a, T, O> {
     /// Begins with no item.
-    pub fn new(telling: T, output: &'a mut O) -> Self
+    pub fn new(telling: &'a T, output: &'a mut O) -> Self
         ensures name { result.output.ghost_name ≡ output.entry.ghost_name }
         ensures now { result.output.now ≡ output.old }
-        ensures telling { result.telling ≡ telling }
+        ensures telling { result.telling.now ≡ telling.now }
     {
         Teller { output, telling }
     }
 }
 
-impl<T, S: Telling<T> + Drop, O: LineOutput> Visitor<T> for Teller<'_, S, O> {
+impl<T, S: Telling<T>, O: LineOutput> Visitor<T> for Teller<'_, S, O> {
     type Error = O::Error;
 
     ghost use Rattle.ptdump_engine.specs.private.Telling.{AreTold, told_nothing, told_both};
@@ -125,7 +125,7 @@ pub fn tell_mappings<L: LevelCount, T: Telling<MappingIn<L>> + Drop, O: LineOutp
         (is_mapping_selected L.LEVELS selection)
         (mappings_of L.LEVELS (words_loaded loaded.now) loaded.now.root)))) }
 {
-    let mut teller = Teller::new(telling, output);
+    let mut teller = Teller::new(&telling, output);
     visit_selected_mappings::<L, PhysMemory, IdentityMapping, Teller<'_, T, O>>(
         loaded.summaries,
         loaded.root,
@@ -151,7 +151,8 @@ pub fn tell_regions<L: LevelCount, T: Telling<RegionIn<L>> + Drop, O: LineOutput
         (is_selected L.LEVELS selection)
         (regions_of L.LEVELS (words_loaded loaded.now) loaded.now.root)))) }
 {
-    let mut teller = Teller::new(Selected { selection, telling }, output);
+    let selected = Selected { selection, telling };
+    let mut teller = Teller::new(&selected, output);
     visit_regions::<L, PhysMemory, IdentityMapping, Teller<'_, Selected<T>, O>>(
         loaded.summaries,
         loaded.root,

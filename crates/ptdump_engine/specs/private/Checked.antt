@@ -1,16 +1,24 @@
 -- Checked: the lines of a check of loaded tables, which are in order.
-use Rattle.std.specs.Prelude.{ℕ, ◌++◌, if◌then◌else◌, List, [], filter, map}
+use Rattle.std.specs.Prelude.{ℕ, ◌++◌, if◌then◌else◌, List, [], filter, map, Option, option_map}
 use Rattle.x86_64_model.specs.Memory.{identity_places, words_of}
-use Rattle.x86_64_model.specs.Mappings.{mappings_of}
+use Rattle.x86_64_model.specs.Mappings.{Mapping, mappings_of}
 use Rattle.x86_64_model.specs.Regions.{regions_of}
+use Rattle.ptdump_check.specs.Aliasing.{alias_by, aliased_by}
 use Rattle.ptdump_check.specs.Findings.{findings_by}
 use Rattle.ptdump_check.specs.Loaded.{words_loaded}
 use Rattle.x86_64_mappings.specs.Selections.{is_selected}
+use Rattle.x86_64_mappings.specs.Views.{frame_at}
 use Rattle.ptdump_check.specs.declared.findings.flaw.Flaw.TheVariants.{WritableAndExecutable, UserInUpperHalf}
+use Rattle.ptdump_check.specs.declared.first_mappings.FirstMappings.{FirstMappings}
 use Rattle.ptdump_check.specs.declared.loaded.Loaded.{Loaded}
-use Rattle.ptdump_engine.specs.CheckReports.{alias_lines, flawed_lines, said_of}
+use Rattle.ptdump_engine.specs.CheckReports.{alias_lines, flawed_lines, said_of, said_of_aliased}
 use Rattle.ptdump_engine.specs.Said.{Said}
 use Rattle.ptdump_engine.specs.declared.check.subject.Subject.{Subject}
+
+-- The text and the JSON object of the mapping m and its first alias by the first mappings of all frames, or None if it has no alias
+-- by these.
+abbrev pub said_by_firsts : {X : Type 0} → (L : ℕ) → FirstMappings X → Mapping → Option Said
+said_by_firsts L firsts m = option_map (λ n. said_of_aliased (aliased_by L m n)) (alias_by firsts (frame_at m.size m.frame) m.rights m.start)
 
 -- The lines for mappings in loaded tables that have an alias, or none if a check doesn't look for these.
 abbrev pub aliases_by : {X : Type 0} → (L : ℕ) → Loaded X → Subject → List Said

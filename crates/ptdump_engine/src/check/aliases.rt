@@ -1,81 +1,30 @@
 //! Frames that are mapped with different rights.
-ghost use Rattle.std.specs.Prelude.{◌≡◌, [], List, OnOk};
-ghost use Rattle.std.specs.List.{cons_option};
-ghost use Rattle.x86_64_model.specs.Mappings.{Mapping, mappings_of};
+ghost use Rattle.std.specs.Prelude.{OnOk};
+ghost use Rattle.x86_64_model.specs.Mappings.{mappings_of};
 ghost use Rattle.ptdump_check.specs.Loaded.{IsLoadedDump, words_loaded};
 ghost use Rattle.ptdump_check.specs.Aliasing.{AreOfAll};
-ghost use Rattle.ptdump_engine.specs.CheckReports.{alias_lines, said_of_mapping};
-ghost use Rattle.ptdump_engine.specs.private.Checked.{aliases_by};
+ghost use Rattle.ptdump_engine.specs.CheckReports.{alias_lines};
+ghost use Rattle.ptdump_engine.specs.private.Checked.{aliases_by, said_by_firsts};
 
 use crate::check::subject::Subject;
 use crate::line_output::LineOutput;
 use crate::request::Selection;
+use crate::telling::{Teller, Telling};
 use ptdump_check::{Aliased, FirstMappings, Loaded};
 use std::alloc::Global;
 use x86_64_addr::level_count::LevelCount;
-use x86_64_mappings::{MappingIn, Visitor, visit_distinct_mappings};
+use x86_64_mappings::{MappingIn, visit_distinct_mappings};
 use x86_64_tables::phys_memory::{IdentityMapping, PhysMemory};
 
-/// A visitor that writes a line for each mapping that has an alias.
-///
-/// The destination of the lines is a type parameter so that contracts can identify it once it is returned.
-struct AliasLines<'a, L: LevelCount, O> {
-    output: &'a mut O,
-    firsts: &'a FirstMappings<L>,
-}
+impl<L: LevelCount> Telling<MappingIn<L>> for FirstMappings<L> {
+    ghost said = { λ firsts mapping. said_by_firsts L.LEVELS firsts mapping };
 
-impl<L: LevelCount, O> Drop for AliasLines<'_, L, O> {
-    fn drop(self)
-        ensures { self.exit.0.now ≡ self.entry.output.now }
-    {
-        let AliasLines {
-            output: _output,
-            firsts: _,
-        } = self;
-    }
-}
-
-impl<'a, L: LevelCount, O: LineOutput> AliasLines<'a, L, O> {
-    /// Begins with no mapping.
-    fn new(firsts: &'a FirstMappings<L>, output: &'a mut O) -> Self
-        ensures name { result.output.ghost_name ≡ output.entry.ghost_name }
-        ensures now { result.output.now ≡ output.old }
-        ensures firsts { result.firsts.now ≡ firsts.now }
-    {
-        AliasLines { output, firsts }
-    }
-}
-
-impl<L: LevelCount, O: LineOutput> Visitor<MappingIn<L>> for AliasLines<'_, L, O> {
-    type Error = O::Error;
-
-    ghost use Rattle.ptdump_engine.specs.private.AliasingLaws.{aliased_nothing, aliased_both};
-    ghost use Rattle.ptdump_engine.specs.private.AliasingLines.{AreAliased};
-
-    ghost Visits = { λ old new mappings. AreAliased O.Lines L.LEVELS old new mappings };
-
-    /// Writes a line for a mapping, if it has an alias.
-    fn visit(&mut self, mapping: MappingIn<L>) -> Result<(), O::Error> {
-        write_alias::<L, O>(self.firsts, &mapping, self.output)
-    }
-
-    ghost none = { λ visitor. aliased_nothing O.Lines O.nothing L.LEVELS visitor };
-
-    ghost both = { aliased_both O.Lines O.parts L.LEVELS };
-}
-
-/// Writes a line for a mapping, if it has an alias.
-fn write_alias<L: LevelCount, O: LineOutput>(
-    firsts: &FirstMappings<L>,
-    mapping: &MappingIn<L>,
-    output: &mut O,
-) -> Result<(), O::Error>
-    ensures { OnOk result ((all : List Mapping) → AreOfAll L.LEVELS firsts.now all →
-        O.Lines output.old output.new (cons_option (said_of_mapping L.LEVELS all mapping.now) [])) }
-{
-    match firsts.alias(mapping.frame, mapping.rights, mapping.start) {
-        Some(alias) => output.write_line(Aliased::of(mapping, &alias)),
-        None => Ok(()),
+    /// Puts in the line for a mapping, if it has an alias.
+    fn tell<O: LineOutput>(&self, mapping: MappingIn<L>, output: &mut O) -> Result<(), O::Error> {
+        match self.alias(mapping.frame, mapping.rights, mapping.start) {
+            Some(alias) => output.write_line(Aliased::of(&mapping, &alias)),
+            None => Ok(()),
+        }
     }
 }
 
@@ -94,13 +43,13 @@ fn write_aliases_by<L: LevelCount, O: LineOutput>(
     ensures { OnOk result (O.Lines output.old output.new (alias_lines L.LEVELS selection.now
         (mappings_of L.LEVELS (words_loaded loaded.now) loaded.now.root))) }
 {
-    let mut lines = AliasLines::new(firsts, output);
-    visit_distinct_mappings::<L, PhysMemory, IdentityMapping, AliasLines<'_, L, O>>(
+    let mut teller = Teller::new(firsts, output);
+    visit_distinct_mappings::<L, PhysMemory, IdentityMapping, Teller<'_, FirstMappings<L>, O>>(
         alloc,
         loaded.summaries,
         loaded.root,
         *selection,
-        &mut lines,
+        &mut teller,
     )?;
     Ok(())
 }
