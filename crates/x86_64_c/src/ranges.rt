@@ -436,8 +436,8 @@ fn unmap_pages<S: PageSize, L: LevelCount, T: TableMemory, P: PageTableFrameMapp
 ) -> Unmapped
     requires valid { Valid (given.at P.places L.LEVELS located (T.tables memory.old)) }
     requires there { page + count * span S.LEVEL ≤ position_count L.LEVELS }
-    ensures unmaps { ranges.UnmapsRange (given.at P.places L.LEVELS located (T.tables memory.old)) S.LEVEL page
-        count frames.old (given.at P.places L.LEVELS located (T.tables memory.new))
+    ensures unmaps { ranges.UnmapsRange (given.at P.places L.LEVELS located (T.tables memory.old)) S.LEVEL
+        page count frames.old (given.at P.places L.LEVELS located (T.tables memory.new))
         (ranges.end_status result.done count) frames.new result.frame_count result.done }
     ensures lent { T.lent memory.new ≡ T.lent memory.old }
 {
