@@ -23,11 +23,11 @@ tells false s is means same = record {
 -- ---- arguments that are right
 
 -- nothing is wrong with any of several arguments if nothing is with the first, and with the others
-none_both : {X : Type 0} (a b : Option X) → option_or a b ≡ None → (a ≡ None) × (b ≡ None)
+pub none_both : {X : Type 0} (a b : Option X) → option_or a b ≡ None → (a ≡ None) × (b ≡ None)
 none_both None b none = (refl, none)
 none_both (Some x) b none = absurd (let e : Some x ≡ None = none in cc)
 
-unless_none : (b : Bool) (why : ℕ) → unless b why ≡ None → b ≡ true
+pub unless_none : (b : Bool) (why : ℕ) → unless b why ≡ None → b ≡ true
 unless_none true why none = refl
 unless_none false why none = absurd (let e : Some why ≡ None = none in cc)
 

@@ -135,14 +135,11 @@ impl<'a> WholeMap<'a> {
 }
 
 impl<S: PageSize, L: LevelCount> PoolStep<L> for PageMap<S, L> {
-    ghost use Rattle.std.specs.Prelude.{false};
     ghost use Rattle.x86_64_c.specs.private.OrNothing.{RunsIfOk, is_refusal};
     ghost use Rattle.x86_64_c.specs.private.PoolLaws.{own_runs_if_ok};
     ghost use Rattle.x86_64_live.specs.MapsOrNothing.{call_for};
 
     type Out = u32;
-
-    ghost gives_root = { λ _. false };
 
     ghost refused = { is_refusal };
 

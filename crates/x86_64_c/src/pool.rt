@@ -1,5 +1,5 @@
 //! The way in with a pool: what each operation that takes frames from a pool or returns frames to it shares.
-ghost use Rattle.std.specs.Prelude.{◌≡◌, ◌≤◌, ℕ, Bool, List, true, length};
+ghost use Rattle.std.specs.Prelude.{◌≡◌, ◌≤◌, ℕ, Bool, List, true, false, length};
 ghost use Rattle.std.specs.Borrow.{GName};
 ghost use Rattle.x86_64_c.specs.Arguments as given;
 ghost use Rattle.x86_64_c.specs.private.Pools as pools;
@@ -19,10 +19,10 @@ pub trait PoolStep<L: LevelCount> {
     type Out;
 
     /// Whether the store gets the root.
-    ghost gives_root: { Self → Bool };
+    ghost gives_root: { Self → Bool } = { λ _. false };
 
     /// Whether a result says that nothing changed.
-    ghost refused: { Self.Out → Bool };
+    ghost refused: { Self.Out → Bool } = { λ _. false };
 
     /// What the step does, and what it returns.
     ghost does: { Self → (before : mapper.Hierarchy (Unit {0})) → (store : Store)

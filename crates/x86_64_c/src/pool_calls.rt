@@ -151,17 +151,12 @@ pub struct MapTo<S: PageSize, L: LevelCount> {
 }
 
 impl<S: PageSize, L: LevelCount> PoolStep<L> for MapTo<S, L> {
-    ghost use Rattle.std.specs.Prelude.{false};
     ghost use Rattle.x86_64_c.specs.PoolCalls.{RunsCall};
     ghost use Rattle.x86_64_c.specs.private.PoolLaws.{own_runs};
     ghost use Rattle.x86_64_model.specs.Call.{MapToWithTableFlags};
     ghost use Rattle.x86_64_tables.specs.PageTableFlags.{bits_of};
 
     type Out = u32;
-
-    ghost gives_root = { λ _. false };
-
-    ghost refused = { λ _. false };
 
     ghost does = { λ map h pool after rest status. RunsCall h pool (MapToWithTableFlags S.LEVEL
         map.page map.frame (bits_of map.flags) (bits_of map.parent_flags)) after rest status };

@@ -139,15 +139,12 @@ pub struct TablesAbove<S: PageSize, L: LevelCount> {
 }
 
 impl<S: PageSize, L: LevelCount> PoolStep<L> for TablesAbove<S, L> {
-    ghost use Rattle.std.specs.Prelude.{false};
     ghost use Rattle.x86_64_c.specs.Preparations.{PreparesPage};
     ghost use Rattle.x86_64_c.specs.private.OrNothing.{is_refusal};
     ghost use Rattle.x86_64_c.specs.private.PoolLaws.{own_prepares};
     ghost use Rattle.x86_64_tables.specs.PageTableFlags.{bits_of};
 
     type Out = u32;
-
-    ghost gives_root = { λ _. false };
 
     ghost refused = { is_refusal };
 

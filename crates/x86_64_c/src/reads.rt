@@ -97,8 +97,6 @@ impl Operation for PageWalk {
 
     ghost wrong = { λ walk levels tables room. wrong_address levels walk.address };
 
-    ghost may = { λ walk h array. Unit {0} };
-
     ghost does = { λ walk h array after left found. (after.memory ≡ h.memory)
         × (found ≡ walked_to h walk.address) };
 
