@@ -1,5 +1,5 @@
 -- What a mapper did below the root's entries, stated of the words in the caller's memory.
-use Rattle.std.proofs.Common.{◌≡◌, ℕ, ◌+◌, Bool, List, Some, None, refl, sym, ◌∙◌, subst, subst₂}
+use Rattle.std.proofs.Common.{◌≡◌, ℕ, ◌+◌, Bool, List, Some, None, refl, sym, ◌∙◌, subst₂}
 use Rattle.x86_64_mappers.proofs.CleanUp.BelowRootSpaces.{keeps}
 use Rattle.x86_64_mappers.specs.CleanUpsBelowRoot.{CleansUpBelowRoot}
 use Rattle.x86_64_model.specs.Hierarchy.{Hierarchy}
@@ -13,7 +13,7 @@ use Rattle.x86_64_c.specs.PoolCalls.{loan, to_clean_up, wrong_pool_call}
 use Rattle.x86_64_c.specs.Status.{ok}
 use Rattle.x86_64_c.specs.declared.arguments.Hierarchy.{Hierarchy as Given}
 use Rattle.x86_64_c.specs.private.Pools.{Leaves}
-use Rattle.x86_64_c.proofs.EntryChanges.{of}
+use Rattle.x86_64_c.proofs.EntryChanges.{in_memory, of}
 
 seen : {Lent : Type 0} (h after : Hierarchy Lent) (store rest : Store) (low high : ℕ) → CleansUpBelowRoot h store low high after rest
     → CleansUpBelowRoot (of h.layout h.memory) store low high (of after.layout after.memory) rest
@@ -35,10 +35,7 @@ seen h after store rest low high cleans = record {
 did : {Lent : Type 0} (h after : Hierarchy Lent) (l : Layout) (m n : Memory) → h.layout ≡ l → h.memory ≡ m → after.memory ≡ n → (store rest : Store) (low high : ℕ)
     → CleansUpBelowRoot h store low high after rest → CleansUpBelowRoot (of l m) store low high (of l n) rest
 did h after l m n layout memory gone store rest low high cleans =
-    subst (λ l. CleansUpBelowRoot (of l m) store low high (of l n) rest) layout
-    (subst (λ m. CleansUpBelowRoot (of h.layout m) store low high (of h.layout n) rest) memory
-    (subst (λ n. CleansUpBelowRoot (of h.layout h.memory) store low high (of h.layout n) rest) gone
-    (subst (λ k. CleansUpBelowRoot (of h.layout h.memory) store low high (of k after.memory) rest) cleans.layout (seen h after store rest low high cleans))))
+    in_memory h after l m n layout memory gone cleans.layout (λ before after. CleansUpBelowRoot before store low high after rest) (seen h after store rest low high cleans)
 
 -- a clean up with a store whose supply is what it holds
 module _ {Lent : Type 0} (h after : Hierarchy Lent) (l : Layout) (m n : Memory) (layout : h.layout ≡ l) (memory : h.memory ≡ m) (gone : after.memory ≡ n) (serves left_serves : ℕ → Bool)

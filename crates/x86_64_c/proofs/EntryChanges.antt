@@ -59,14 +59,20 @@ module _ (k l : Layout) (n m : Memory) (layout : k ≡ l) (memory : n ≡ m) whe
   pub supply_over : (serves : ℕ → Bool) (pool : List ℕ) → PoolFits (of l m) serves pool → SupplyFits (of k n) pool
   supply_over serves pool fits = over (λ a. SupplyFits a pool) (ready_of_fits l m serves pool fits)
 
+-- and what holds of its words before and after holds of those in the caller's memory
+pub in_memory : {Lent : Type 0} (h after : Hierarchy Lent) (l : Layout) (m n : Memory) → h.layout ≡ l → h.memory ≡ m → after.memory ≡ n → after.layout ≡ h.layout
+    → (P : (before after : Hierarchy (Unit {0})) → Type 0) → P (of h.layout h.memory) (of after.layout after.memory) → P (of l m) (of l n)
+in_memory h after l m n layout memory left same P seen =
+    subst (λ l. P (of l m) (of l n)) layout
+    (subst (λ m. P (of h.layout m) (of h.layout n)) memory
+    (subst (λ n. P (of h.layout h.memory) (of h.layout n)) left
+    (subst (λ k. P (of h.layout h.memory) (of k after.memory)) same seen)))
+
 pub changes : {Lent : Type 0} (h after : Hierarchy Lent) (l : Layout) (m n : Memory) → h.layout ≡ l → h.memory ≡ m → after.memory ≡ n
     → (call : Call) (answer : Answer) (status : ℕ) → IsParentFlags l.added_flags → IsCall l.levels call → allows (of l m) call ≡ true
     → Does h call answer after → status ≡ answer_status answer → Changes (of l m) call answer (of l n) status
 changes h after l m n layout memory left call answer status adds is may does told =
-    let did = subst (λ l. Does (of l m) call answer (of l n)) layout
-    (subst (λ m. Does (of h.layout m) call answer (of h.layout n)) memory
-    (subst (λ n. Does (of h.layout h.memory) call answer (of h.layout n)) left
-    (subst (λ k. Does (of h.layout h.memory) call answer (of k after.memory)) does.layout (seen h after call answer does)))) in
+    let did = in_memory h after l m n layout memory left does.layout (λ before after. Does before call answer after) (seen h after call answer does) in
     record { does = did; status_is = told; keeps = keeps (of l m) (of l n) call answer adds is may did }
 
 -- a mapper without recursive index adds no flags to the parent flags

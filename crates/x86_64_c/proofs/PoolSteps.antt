@@ -28,7 +28,7 @@ use Rattle.x86_64.proofs.PageSteps.{Start, map_with_flags_served}
 use Rattle.x86_64_c.specs.Calls.{reply_status, result_status}
 use Rattle.x86_64_c.specs.PoolCalls.{RunsCall}
 use Rattle.x86_64_c.specs.Status.{ok, not_allowed}
-use Rattle.x86_64_c.proofs.EntryChanges.{of}
+use Rattle.x86_64_c.proofs.EntryChanges.{in_memory, of}
 
 -- what holds for each of the three levels
 pub by_level : (P : ℕ → Type 0) → P 1 → P 2 → P 3 → (level : ℕ) → 1 ≤ level → level ≤ 3 → P level
@@ -59,10 +59,7 @@ map_seen h after supply call answer rest does = record {
 pub map_did : {Lent : Type 0} (h after : Hierarchy Lent) (l : Layout) (m n : Memory) → h.layout ≡ l → h.memory ≡ m → after.memory ≡ n
     → (supply : List ℕ) (call : Call) (answer : Answer) (rest : List ℕ) → DoesMap h supply call answer after rest → DoesMap (of l m) supply call answer (of l n) rest
 map_did h after l m n layout memory left supply call answer rest does =
-    subst (λ l. DoesMap (of l m) supply call answer (of l n) rest) layout
-    (subst (λ m. DoesMap (of h.layout m) supply call answer (of h.layout n) rest) memory
-    (subst (λ n. DoesMap (of h.layout h.memory) supply call answer (of h.layout n) rest) left
-    (subst (λ k. DoesMap (of h.layout h.memory) supply call answer (of k after.memory) rest) does.layout (map_seen h after supply call answer rest does))))
+    in_memory h after l m n layout memory left does.layout (λ before after. DoesMap before supply call answer after rest) (map_seen h after supply call answer rest does)
 
 -- whether a call is allowed, of the words alone
 pub seen_allows : (k l : Layout) (n m : Memory) → k ≡ l → n ≡ m → (call : Call) → allows (of k n) call ≡ allows (of l m) call

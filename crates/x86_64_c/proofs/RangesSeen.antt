@@ -20,7 +20,7 @@ use Rattle.x86_64_mappers.specs.Ranges.{DoesMaps, IsNextMap, MapRange, MapsByRes
 use Rattle.x86_64_mappers.specs.declared.walk.map_range.MapRangeErrorIn.{MapRangeErrorIn}
 use Rattle.x86_64_tables.specs.FlushRecorder.{FlushRange, flush_range}
 use Rattle.x86_64_tables.specs.MapperAnswers.{map_refusal}
-use Rattle.x86_64_c.proofs.EntryChanges.{is_page_level, of}
+use Rattle.x86_64_c.proofs.EntryChanges.{in_memory, is_page_level, of}
 use Rattle.x86_64_c.proofs.RangeArguments.{page_before}
 use Rattle.x86_64_c.proofs.RangeKeeps.{keeps_calls, are_calls}
 use Rattle.x86_64_c.specs.Calls.{result_status}
@@ -78,10 +78,7 @@ seen_changes h after calls replies does = record {
 pub changes_each : {Lent : Type 0} (h after : Hierarchy Lent) (l : Layout) (m n : Memory) → h.layout ≡ l → h.memory ≡ m → after.memory ≡ n → IsParentFlags l.added_flags
     → (calls : List Call) (replies : List Reply) → AllCalls l.levels calls → DoesChanges h calls replies after → ChangesRange (of l m) calls replies (of l n)
 changes_each h after l m n layout memory left adds calls replies are does =
-    let did = subst (λ l. DoesChanges (of l m) calls replies (of l n)) layout
-    (subst (λ m. DoesChanges (of h.layout m) calls replies (of h.layout n)) memory
-    (subst (λ n. DoesChanges (of h.layout h.memory) calls replies (of h.layout n)) left
-    (subst (λ k. DoesChanges (of h.layout h.memory) calls replies (of k after.memory)) does.layout (seen_changes h after calls replies does)))) in
+    let did = in_memory h after l m n layout memory left does.layout (λ before after. DoesChanges before calls replies after) (seen_changes h after calls replies does) in
     record {
       does = did;
       keeps = λ serves pool fits. keeps_calls l adds serves m pool fits calls are n pool (did.state pool put_first) (did.fits pool (ready_of_fits l m serves pool fits))
@@ -155,10 +152,7 @@ seen_maps h supply r count answers after rest does = record {
 module _ {Lent : Type 0} (h after : Hierarchy Lent) (l : Layout) (m n : Memory) (layout : h.layout ≡ l) (memory : h.memory ≡ m) (left : after.memory ≡ n) (supply : List ℕ) (r : MapRange) (rest : List ℕ) where
   pub maps_did : (count : ℕ) (answers : List Reply) → DoesMaps h supply r count answers after rest → DoesMaps (of l m) supply r count answers (of l n) rest
   maps_did count answers does =
-      subst (λ l. DoesMaps (of l m) supply r count answers (of l n) rest) layout
-      (subst (λ m. DoesMaps (of h.layout m) supply r count answers (of h.layout n) rest) memory
-      (subst (λ n. DoesMaps (of h.layout h.memory) supply r count answers (of h.layout n) rest) left
-      (subst (λ k. DoesMaps (of h.layout h.memory) supply r count answers (of k after.memory) rest) does.layout (seen_maps h supply r count answers after rest does))))
+      in_memory h after l m n layout memory left does.layout (λ before after. DoesMaps before supply r count answers after rest) (seen_maps h supply r count answers after rest does)
 
 -- a pool that fitted before maps fits after them
 pub maps_keep : (l : Layout) (m n : Memory) (serves : ℕ → Bool) (pool : List ℕ) (r : MapRange) (count : ℕ) (answers : List Reply) (rest : List ℕ) → IsParentFlags l.added_flags → AllCalls l.levels (maps r count)
