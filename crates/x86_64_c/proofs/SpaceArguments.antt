@@ -1,5 +1,5 @@
 -- What is wrong with the arguments of calls on several address spaces, and what these leave if something is.
-use Rattle.std.proofs.Common.{◌≡◌, inl, inr, ◌≤◌, ◌↔◌, ℕ, ◌==◌, ◌||◌, ◌&&◌, nat_le, nat_lt, Bool, true, false, List, length, Some, None, IsTrue, Option, refl, sym, subst, subst₂, ◌∙◌, arith}
+use Rattle.std.proofs.Common.{◌≡◌, inl, inr, ◌≤◌, ◌↔◌, ℕ, nat_le, nat_lt, Bool, true, false, List, length, Some, None, IsTrue, Option, refl, sym, subst, subst₂, ◌∙◌, arith}
 use Rattle.std.specs.Option.{option_or}
 use Rattle.std.proofs.lemmas.Bool.{leb-true}
 use Rattle.x86_64_c.specs.AddressSpaces.{wrong_indices, wrong_gone, bad_new, bad_gone, MakesSpace, GivesUpSpace}

@@ -7,6 +7,7 @@ ghost use Rattle.x86_64_model.specs.Hierarchy as mapper;
 ghost use Rattle.x86_64_model.specs.Store.{StoreFits, Store, store_of};
 ghost use Rattle.x86_64_tables.specs.LentPool.{is_in, served_by};
 
+pub mod pages;
 pub mod ranges;
 
 use crate::arguments::Located;

@@ -1,5 +1,5 @@
 //! Calls that read at an address: page walk and translation.
-ghost use Rattle.std.specs.Prelude.{◌≡◌, ℕ, length, option_map, Some, None};
+ghost use Rattle.std.specs.Prelude.{◌≡◌, ℕ, length, Some, None};
 ghost use Rattle.x86_64_c.specs.Arguments as given;
 ghost use Rattle.x86_64_c.specs.Reads as reads;
 ghost use Rattle.x86_64_model.specs.Hierarchy.{Valid};
