@@ -6,7 +6,8 @@ use Rattle.x86_64_model.specs.Machine.{State}
 use Rattle.x86_64_model.specs.Hierarchy.{◌laid_in◌, Hierarchy}
 use Rattle.x86_64_model.specs.Memory.{Memory}
 use Rattle.x86_64_model.specs.Store.{Store, Keeps}
-use Rattle.x86_64.specs.FreeFrames.{KeepsFree, back_by}
+use Rattle.x86_64_model.specs.Flushing.{freed_by}
+use Rattle.x86_64.specs.FreeFrames.{KeepsFree}
 use Rattle.x86_64.specs.Replies.{Reply}
 use Rattle.x86_64.specs.Runs.{Ran, Stepped, LeavesFree, machine_with, state_with, state_in, step_by}
 use Rattle.pagetab_engine.specs.Calls.{IsAnswered}
@@ -35,7 +36,7 @@ module _ {C Lent : Type 0} (asks : C → Call) (h after : Hierarchy Lent) (store
 
   free_one : (replies : List Reply) → Ran asks h store (call ∷ []) [] replies after rest → LeavesFree h store (asks call) after rest
   free_one replies ran =
-      let back = back_by (machine_with h store) (state_with h store) (asks call) in
+      let back = freed_by h.layout.levels (state_with h store) (asks call) in
       subst (λ (back : List ℕ). KeepsFree h.layout h.memory store.frames back after.memory rest) (append-nil back) ran.free
 
 pub answered_one : {C Lent : Type 0} (asks : C → Call) (h after : Hierarchy Lent) (store rest : Store) (call : C) (calls : List C) (replies : List Reply) (reply : Reply)

@@ -6,12 +6,13 @@ use Rattle.x86_64_model.specs.Layout.{Layout}
 use Rattle.x86_64_model.specs.Machine.{Machine, State}
 use Rattle.x86_64_model.specs.Memory.{Memory}
 use Rattle.x86_64_model.specs.Store.{Store, StoreFits, Keeps}
+use Rattle.x86_64_model.specs.Flushing.{freed_by}
 use Rattle.x86_64_mappers.specs.Layouts.{direct_at}
 use Rattle.x86_64_mappers.proofs.Memory.OffsetTables.{offset_fits}
 use Rattle.x86_64_mappers.specs.Offsets.{OffsetFits, offset_places}
 use Rattle.x86_64.proofs.Offsets.{same_state, same_kept, same_free}
 use Rattle.x86_64.proofs.PlacesStay.{offsets_fit_still}
-use Rattle.x86_64.specs.FreeFrames.{KeepsFree, back_by}
+use Rattle.x86_64.specs.FreeFrames.{KeepsFree}
 use Rattle.x86_64.specs.Runs as runs
 use Rattle.x86_64.specs.Runs.{Stepped, LeavesFree}
 use Rattle.x86_64.specs.Replies.{Reply}
@@ -35,7 +36,7 @@ answered_alike levels offset m n store rest call reply first last answered =
     let machine : Machine = runs.machine_of (direct_layout levels) store.take_back in
     record {
       step = ap (λ (state : State). runs.step_by machine state call) (sym same) ∙ answered.step ∙ ap (λ (state : State). record { state = state; reply = Some reply }) (same_state levels offset 0x1000 n rest.frames last);
-      free = subst (λ (state : State). KeepsFree (direct_layout levels) m store.frames (back_by machine state call) n rest.frames) same
+      free = subst (λ (state : State). KeepsFree (direct_layout levels) m store.frames (freed_by machine.levels state call) n rest.frames) same
           (same_free levels offset 0x1000 m n store.frames _ rest.frames first last answered.free);
       keeps = record {
         keeps = same_kept levels offset 0x1000 store.serves m n store.frames rest.frames first last answered.keeps.keeps;

@@ -2,8 +2,8 @@
 use Rattle.std.proofs.Common.{◌≡◌, ℕ, true, false, cond, [], Some, option_map, refl, sym, ap, ◌∙◌, subst}
 use Rattle.x86_64_model.specs.Call as model
 use Rattle.x86_64_model.specs.Layout.{Layout}
+use Rattle.x86_64_model.specs.Flushing.{freed_by}
 use Rattle.x86_64.specs.Calls.{names_by}
-use Rattle.x86_64.specs.FreeFrames.{back_by}
 use Rattle.x86_64.specs.Pairs.{pool_store}
 use Rattle.x86_64.specs.Replies.{Reply}
 use Rattle.x86_64.specs.Runs as runs
@@ -38,7 +38,7 @@ module _ (hierarchy : Hierarchy) (call : model.Call) where
         reply = λ _. ap (λ (after : AfterStep Reply). option_map Answered after.reply) step;
         state = sym (ap (λ (after : AfterStep Reply). after.state) step);
         reads = λ _. refl;
-        free = free_itself hierarchy _ (ap (λ b. cond b [] (back_by machine (hierarchy_state hierarchy) call)) is);
+        free = free_itself hierarchy _ (ap (λ b. cond b [] (freed_by machine.levels (hierarchy_state hierarchy) call)) is);
         keeps = keeps_itself hierarchy fits;
         both = λ executed. absurd (let t : true ≡ false = sym is ∙ executed in cc);
       }
@@ -50,8 +50,8 @@ module _ (hierarchy : Hierarchy) (call : model.Call) where
       let machine = situation_machine (situation_of hierarchy) in
       let step : call_step (situation_of hierarchy) call ≡ record { state = runs.state_in (layout_of hierarchy) after.frames.memory after.frames.pool.frames; reply = Some reply } =
       ap (λ b. cond b refused (runs.step_by machine (hierarchy_state hierarchy) call)) is ∙ answered.step in
-      let back : call_back (situation_of hierarchy) call ≡ back_by machine (hierarchy_state hierarchy) call =
-      ap (λ b. cond b [] (back_by machine (hierarchy_state hierarchy) call)) is in
+      let back : call_back (situation_of hierarchy) call ≡ freed_by machine.levels (hierarchy_state hierarchy) call =
+      ap (λ b. cond b [] (freed_by machine.levels (hierarchy_state hierarchy) call)) is in
       record {
         reply = λ _. ap (λ (after : AfterStep Reply). option_map Answered after.reply) step;
         state = ap (λ (l : Layout). runs.state_in l after.frames.memory after.frames.pool.frames) keeps.keeps.layout ∙ sym (ap (λ (after : AfterStep Reply). after.state) step);

@@ -6,7 +6,7 @@ use Rattle.x86_64_model.specs.Machine.{Machine, State}
 use Rattle.x86_64_model.specs.Memory.{Memory, Words, identity_places, word, words_of}
 use Rattle.x86_64_model.specs.PageWalk.{page_walk}
 use Rattle.x86_64_model.specs.Path.{indices}
-use Rattle.x86_64.specs.FreeFrames.{back_by}
+use Rattle.x86_64_model.specs.Flushing.{freed_by}
 use Rattle.x86_64.specs.Pairs.{put_first}
 use Rattle.x86_64.specs.Replies.{Reply as CallReply}
 use Rattle.x86_64.specs.Runs as runs
@@ -43,7 +43,7 @@ call_step s call = cond (is_refused s.mode call) (record { state = s.state; repl
 
 -- The frames that a call returns if a mapper executes it: those of the tables that a clean up removes.
 abbrev pub call_back : Situation → model.Call → List ℕ
-call_back s call = cond (is_refused s.mode call) [] (back_by (situation_machine s) s.state call)
+call_back s call = cond (is_refused s.mode call) [] (freed_by s.layout.levels s.state call)
 
 -- A table of 512 words in each frame.
 abbrev pub tables_with : (words : ℕ → ℕ → ℕ) → Words

@@ -26,14 +26,6 @@ NoneAt flaw level = (e : Entry) → e.level ≡ level → flaw_in flaw e ≡ Non
 
 -- ---- entries
 
-none_low : (p h : Bool) (o : Option Finding) → cond (p && (false && h)) o None ≡ None
-none_low true h o = refl
-none_low false h o = refl
-
--- up to level three, HUGE_PAGE is no flaw
-pub none_huge : (level : ℕ) → nat_lt 3 level ≡ false → NoneAt flaws.HugePage level
-none_huge level low e is = rw (is, low) (none_low (present e.word) (huge e.word) _)
-
 none_reserved : (p s r : Bool) (o : Option Finding) → r ≡ false → cond (p && not s && r) o None ≡ None
 none_reserved true true r o is = refl
 none_reserved true false true o is = absurd (true≢false is)

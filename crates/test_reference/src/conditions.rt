@@ -10,8 +10,8 @@ ghost use Rattle.test_reference.specs.Calls.{plain_call};
 
 use crate::entries::PathEntries;
 use crate::machine::PlainMachine;
-use crate::plain_calls::PlainCall;
-use crate::positions::{front_at, is_small, level_of, lower_half, path_at};
+use crate::plain_calls::{PlainCall, PlainPage};
+use crate::positions::{front_at, is_small, level_of, lower_half};
 use crate::windows::{begins_with, entry_at, first_stop};
 use crate::words::{is_huge, is_present, is_used, no_address, parent_part};
 use std::alloc::AllocError;
@@ -121,7 +121,7 @@ impl PlainMachine {
         let (alloc, levels) = (*paths.items.allocator(), self.levels);
         match *call {
             PlainCall::MapTo { page, flags, .. } => {
-                let path = path_at(alloc, levels, page.level, page.position)?;
+                let path = page.path(alloc, levels)?;
                 Ok(self.map_to_allowed(paths, &path, flags))
             }
             PlainCall::MapToWithTableFlags {
@@ -130,7 +130,7 @@ impl PlainMachine {
                 parent_flags,
                 ..
             } => {
-                let path = path_at(alloc, levels, page.level, page.position)?;
+                let path = page.path(alloc, levels)?;
                 Ok(self.map_allowed(paths, &path, flags, parent_flags))
             }
             PlainCall::IdentityMap {
@@ -138,19 +138,20 @@ impl PlainMachine {
                 frame,
                 flags,
             } => {
-                let path = path_at(alloc, levels, level, frame)?;
+                let position = frame;
+                let path = PlainPage { level, position }.path(alloc, levels)?;
                 Ok((frame < lower_half(levels)) & self.map_to_allowed(paths, &path, flags))
             }
             PlainCall::Unmap { page } => {
-                let path = path_at(alloc, levels, page.level, page.position)?;
+                let path = page.path(alloc, levels)?;
                 Ok(!begins_with(self.window, &path))
             }
             PlainCall::UpdateFlags { page, flags } => {
-                let path = path_at(alloc, levels, page.level, page.position)?;
+                let path = page.path(alloc, levels)?;
                 Ok(no_address(flags) & !begins_with(self.window, &path))
             }
             PlainCall::SetFlags { level, page, flags } => {
-                let path = path_at(alloc, levels, page.level, page.position)?;
+                let path = page.path(alloc, levels)?;
                 Ok(self.is_set_flags_allowed(paths, level, &path, flags))
             }
             PlainCall::TranslatePage { .. }

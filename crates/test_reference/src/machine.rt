@@ -12,7 +12,6 @@ ghost use Rattle.test_reference.specs.Machine.{CanAdd, plain_machine, plain_stat
 use crate::cleaning::CleanUpRange;
 use crate::entries::PathEntries;
 use crate::plain_calls::{PlainCall, PlainPage, PlainReply, Translated};
-use crate::positions::path_at;
 use crate::translations::translate;
 use crate::windows::PlainWindow;
 use crate::words::parent_part;
@@ -87,7 +86,7 @@ impl PlainMachine {
             IfOk result (λ reply. plain_outcome state.new reply ≡ allowed_outcome self.now state.old call) }
     {
         let alloc = *state.pool.allocator();
-        let path = path_at(alloc, self.levels, page.level, page.position)?;
+        let path = page.path(alloc, self.levels)?;
         let (paths, pool) = (&mut state.paths, &mut state.pool);
         let answer = self.map_call(paths, pool, &path, frame, flags, parent_flags)?;
         Ok(PlainReply::Answered(answer))
@@ -144,19 +143,19 @@ impl PlainMachine {
                 )
             }
             PlainCall::Unmap { page } => {
-                let path = path_at(alloc, levels, page.level, page.position)?;
+                let path = page.path(alloc, levels)?;
                 Ok(PlainReply::Answered(self.unmap(&mut state.paths, &path)?))
             }
             PlainCall::UpdateFlags { page, flags } => {
-                let path = path_at(alloc, levels, page.level, page.position)?;
+                let path = page.path(alloc, levels)?;
                 Ok(PlainReply::Answered(self.update_flags(&mut state.paths, &path, flags)?))
             }
             PlainCall::SetFlags { level, page, flags } => {
-                let path = path_at(alloc, levels, page.level, page.position)?;
+                let path = page.path(alloc, levels)?;
                 Ok(PlainReply::Answered(self.set_flags(&mut state.paths, level, &path, flags)?))
             }
             PlainCall::TranslatePage { page } => {
-                let path = path_at(alloc, levels, page.level, page.position)?;
+                let path = page.path(alloc, levels)?;
                 Ok(PlainReply::Answered(self.translate_page(&state.paths, &path)))
             }
             PlainCall::Translate { position } => {

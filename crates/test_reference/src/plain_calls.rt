@@ -1,4 +1,9 @@
 //! Calls, replies and refusals.
+ghost use Rattle.std.specs.Prelude.{◌≡◌, ◌≤◌, IfOk};
+ghost use Rattle.x86_64_model.specs.Path.{path_at};
+
+use crate::positions::page_path;
+use std::alloc::{AllocError, Global};
 
 /// The reason why a call on a page is refused.
 #[derive(Clone, Copy, Debug, PartialEq, Eq)]
@@ -45,6 +50,22 @@ pub struct PlainPage {
     pub level: usize,
     /// The position of its start.
     pub position: u64,
+}
+
+impl PlainPage {
+    /// Returns the path of the entry that maps it, with this many levels.
+    ///
+    /// # Errors
+    ///
+    /// `AllocError` if memory allocation fails.
+    pub fn path(self, alloc: Global, levels: usize) -> Result<Vec<u64>, AllocError>
+        requires { levels ≤ 5 }
+        ensures { IfOk result (λ path. path.items ≡ path_at levels self.level self.position) }
+    {
+        let mut path = page_path(alloc, levels, self.position)?;
+        path.truncate((levels + 1).saturating_sub(self.level));
+        Ok(path)
+    }
 }
 
 /// A call. A frame is named by its address.

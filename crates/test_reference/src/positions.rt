@@ -2,7 +2,7 @@
 //! space.
 ghost use Rattle.std.specs.Prelude.{◌≡◌, ◌≤◌, IfOk, take};
 ghost use Rattle.x86_64_model.specs.Position.{span as span_of, index as index_of, page_path as page_path_of, lower_half as lower_half_of};
-ghost use Rattle.x86_64_model.specs.Path.{path_at as path_at_of, front_at as front_at_of, is_small as is_small_of, level_of as level_of_path, span_size as span_size_of};
+ghost use Rattle.x86_64_model.specs.Path.{front_at as front_at_of, is_small as is_small_of, level_of as level_of_path, span_size as span_size_of};
 
 use std::alloc::{AllocError, Global};
 
@@ -42,21 +42,6 @@ pub fn page_path(alloc: Global, level: usize, position: u64) -> Result<Vec<u64>,
     for below in 0..level {
         path.push(index(level - below, position))?;
     }
-    Ok(path)
-}
-
-/// Returns the path of the entry of a level at a position.
-pub fn path_at(
-    alloc: Global,
-    levels: usize,
-    level: usize,
-    position: u64,
-) -> Result<Vec<u64>, AllocError>
-    requires { levels ≤ 5 }
-    ensures { IfOk result (λ path. path.items ≡ path_at_of levels level position) }
-{
-    let mut path = page_path(alloc, levels, position)?;
-    path.truncate((levels + 1).saturating_sub(level));
     Ok(path)
 }
 

@@ -30,7 +30,7 @@ use Rattle.x86_64_model.proofs.Lemmas.Lists.Members.{in_append, in_map, from_map
 use Rattle.x86_64_model.proofs.Lemmas.Spaces.Paired.{spaces_are_paired}
 use Rattle.x86_64_model.proofs.Lemmas.Switches.Dues.{in_cond}
 use Rattle.x86_64_model.proofs.Lemmas.Switches.Globals.{calls_keep_globals}
-use Rattle.x86_64.specs.FreeFrames.{KeepsFree, back_by}
+use Rattle.x86_64.specs.FreeFrames.{KeepsFree}
 use Rattle.x86_64.specs.Replies.{Reply}
 use Rattle.x86_64.specs.Runs.{AfterStep, step_by}
 use Rattle.x86_64.specs.SwitchingProcessors.{IsReachedBySwitches, RunsOn, made_by, with_due}
@@ -140,7 +140,7 @@ ran_first processes m store gives are a ia late now begins =
 module _ (processes : List Process) (store : Store) (m n : Memory) (rest : List ℕ) (a : Process) (ia : In processes a) (call : Call) (reply : Reply) (is_call : IsCall 4 call)
     (late : Option ℕ) (own : IsOwnCall late a call) (gives : TakesBack store.take_back) (are : AreProcesses processes m store)
     (steps : step_by (machine_of (space_of a) store.take_back) (state_in (space_of a) m store.frames) call ≡ record { state = state_in (space_of a) n rest; reply = Some reply })
-    (free : KeepsFree (space_of a) m store.frames (back_by (machine_of (space_of a) store.take_back) (state_in (space_of a) m store.frames) call) n rest)
+    (free : KeepsFree (space_of a) m store.frames (freed_by (space_of a).levels (state_in (space_of a) m store.frames) call) n rest)
     (beside : LeavesSpaces (space_of a laid_in m) store (call ∷ []) n rest) where
   abbrev after : Store
   after = record store { frames = rest }
@@ -228,7 +228,7 @@ module _ (processes : List Process) (store : Store) (m n : Memory) (rest : List 
 module _ (s : KernelState) (runs : KernelRuns s) (a : Process) (ia : In s.processes a) (call : Call) (reply : Reply) (is_call : IsCall 4 call) (own : IsOwnCall s.late a call)
     (n : Memory) (rest : List ℕ)
     (steps : step_by (machine_of (space_of a) s.store.take_back) (state_in (space_of a) s.memory s.store.frames) call ≡ record { state = state_in (space_of a) n rest; reply = Some reply })
-    (free : KeepsFree (space_of a) s.memory s.store.frames (back_by (machine_of (space_of a) s.store.take_back) (state_in (space_of a) s.memory s.store.frames) call) n rest)
+    (free : KeepsFree (space_of a) s.memory s.store.frames (freed_by (space_of a).levels (state_in (space_of a) s.memory s.store.frames) call) n rest)
     (beside : LeavesSpaces (space_of a laid_in s.memory) s.store (call ∷ []) n rest) where
   gives_back : TakesBack s.store.take_back
   gives_back = runs.first.reached.switches.gives

@@ -3,12 +3,13 @@ use Rattle.std.proofs.Common.{◌≡◌, ◌≢◌, inl, inr, zero, suc, ◌<◌
 use Rattle.std.proofs.lemmas.Bool.{and_parts, leb-true, lt-leb}
 use Rattle.std.proofs.lemmas.List.{append-nil}
 use Rattle.std.specs.Prelude.{if◌then◌else◌}
+use Rattle.std.specs.FinMap.{get}
 use Rattle.x86_64_model.specs.Call.{Call, CleanUp}
 use Rattle.x86_64_model.specs.Laws.Spaces.{IsNewRoot, Led}
 use Rattle.x86_64_model.specs.Layout.{Layout}
 use Rattle.x86_64_model.specs.Lists.{In}
 use Rattle.x86_64_model.specs.Machine.{state_after}
-use Rattle.x86_64_model.specs.Hierarchy.{◌laid_in◌, machine_of, state_in, KeepsOutside, Owns, PoolFits, paths, words}
+use Rattle.x86_64_model.specs.Hierarchy.{◌laid_in◌, machine_of, state_in, Owns, PoolFits, paths, words}
 use Rattle.x86_64_model.specs.Memory.{Memory, words_of, identity_places}
 use Rattle.x86_64_model.specs.Path.{path_at, span_start, span_size}
 use Rattle.x86_64_model.specs.PathMap.{table_at}
@@ -141,9 +142,13 @@ served_cleaned root serves low high m n pool rest first last state keeps leaves 
 
 -- ---- one frame's words change
 
+-- every place keeps its words but those of these frames
+abbrev KeepsAround : (frames : ℕ → Type 0) → Memory → Memory → Type 0
+KeepsAround frames m n = (k : ℕ) → ((f : ℕ) → frames f → identity_places.place f ≢ k) → get n k ≡ get m k
+
 -- an address space keeps its path map if no word changed but those of a free frame
 module _ (a : Layout) (at : a.places ≡ identity_places) (some : 0 < a.levels) (serves : ℕ → Bool) (f : ℕ) (pool : List ℕ) (m n : Memory) (fits : PoolFits (a laid_in m) serves pool) (free : In pool f)
-    (others : KeepsOutside identity_places (λ g. g ≡ f) m n) where
+    (others : KeepsAround (λ g. g ≡ f) m n) where
   there : (g : ℕ) → IsSome (words (a laid_in m) g) → identity_places.covers g ≡ true
   there g some = covered m identity_places g (subst (λ places. IsSome (words_of m places g)) at some)
 
@@ -186,7 +191,7 @@ module _ (root : ℕ) (calls : List Call) (serves : ℕ → Bool) (m n o : Memor
   abbrev LosesNone : Type 0
   LosesNone = (spaces : List Layout) (other : Layout) → (In spaces gone → ⊥) → In spaces other → AreSpaces is_kernels n serves rest (gone ∷ spaces) → (f : ℕ) → Owns (gone laid_in n) rest f → Owns (other laid_in o) last f
 
-  ended : Served gone calls serves m pool n rest → last ≡ root ∷ rest → KeepsOutside identity_places (λ f. f ≡ root) n o → Gives → LosesNone → Ended gone serves m pool o last
+  ended : Served gone calls serves m pool n rest → last ≡ root ∷ rest → KeepsAround (λ f. f ≡ root) n o → Gives → LosesNone → Ended gone serves m pool o last
   ended served back others gives none_lost = record {
     others = λ spaces apart are.
         let now = served.others (gone ∷ spaces) (inl refl) are in

@@ -23,7 +23,7 @@ module _ {Lent : Type 0} (h : Hierarchy Lent) (serves : ℕ → Bool) (pool held
   module _ (take_back : List ℕ → ℕ → List ℕ) (low high : ℕ) (after : Hierarchy Lent) (rest left : List ℕ) (last : rest ≡ left) (cleans : CleansUp h take_back held low high after left) where
     one : step (machine_of h.layout take_back) (state_in h.layout h.memory pool) (machine.CleanUp low high) ≡ record { state = state_in h.layout after.memory rest; reply = machine.Cleaned }
     one = ap (λ fs. do_call (machine_of h.layout take_back) (state_in h.layout h.memory fs) (machine.CleanUp low high)) same ∙ clean_up_leads h take_back held low high after left cleans
-        ∙ ap (λ fs. record { state = state_in after.layout after.memory fs; reply = machine.Cleaned }) (sym last) ∙ ap (λ l. record { state = state_in l after.memory rest; reply = machine.Cleaned }) cleans.layout
+        ∙ ap (λ fs. record { state = state_in after.layout after.memory fs; reply = machine.Cleaned }) (sym last) ∙ ap (λ l. record { state = state_in l after.memory rest; reply = machine.Cleaned }) cleans.keeps.layout
 
     pub cleaned_up : step_by (machine_of h.layout take_back) (state_in h.layout h.memory pool) (machine.CleanUp low high)
         ≡ record { state = state_in h.layout after.memory rest; reply = Some reply.Cleaned }
@@ -32,13 +32,13 @@ module _ {Lent : Type 0} (h : Hierarchy Lent) (serves : ℕ → Bool) (pool held
     pub kept_cleaned : IsParentFlags h.layout.added_flags → TakesBack take_back → (serves_after : ℕ → Bool) → serves_after ≡ serves
         → Keeps h (record { frames = pool; serves = serves; take_back = take_back }) after (record { frames = rest; serves = serves_after; take_back = take_back })
     kept_cleaned adds gives serves_after same_served =
-        let ready : SupplyFits (h.layout laid_in after.memory) held_now = subst (λ l. SupplyFits (l laid_in after.memory) held_now) cleans.layout (cleans.fits take_back gives pool (ready_of_fits h.layout h.memory serves pool fits)) in
+        let ready : SupplyFits (h.layout laid_in after.memory) held_now = subst (λ l. SupplyFits (l laid_in after.memory) held_now) cleans.keeps.layout (cleans.fits take_back gives pool (ready_of_fits h.layout h.memory serves pool fits)) in
         record {
           keeps = keeps_step h.layout adds take_back gives serves h.memory pool fits (machine.CleanUp low high) tt after.memory rest (sym (ap (λ (x : AfterCall). x.state) one))
-              (subst (SupplyFits (h.layout laid_in after.memory)) (ap (λ fs. with_returned take_back fs (freed_frames h low high)) same ∙ sym cleans.returned ∙ sym last) ready) (λ k none. cleans.others k (λ f table. none f (inr table)));
+              (subst (SupplyFits (h.layout laid_in after.memory)) (ap (λ fs. with_returned take_back fs (freed_frames h low high)) same ∙ sym cleans.returned ∙ sym last) ready) (λ k none. cleans.keeps.others k (λ f table. none f (inr table)));
           serves = same_served;
-          layout = cleans.layout;
-          lent = cleans.lent;
+          layout = cleans.keeps.layout;
+          lent = cleans.keeps.lent;
         }
       where
         held_now : List ℕ
@@ -46,4 +46,4 @@ module _ {Lent : Type 0} (h : Hierarchy Lent) (serves : ℕ → Bool) (pool held
 
     pub free_cleaned : IsMapping h.layout.places → TakesBack take_back → KeepsFree h.layout h.memory pool (freed_frames h low high) after.memory rest
     free_cleaned mapping gives = clean_up_keeps_free h.layout mapping serves h.memory pool fits take_back gives after.memory (freed_frames h low high) rest (last ∙ cleans.returned ∙ ap (λ fs. with_returned take_back fs (freed_frames h low high)) (sym same))
-        (λ f came i. subst (λ l. word (words (l laid_in after.memory)) f i ≡ 0) cleans.layout (cleans.empty f came i)) cleans.others
+        (λ f came i. subst (λ l. word (words (l laid_in after.memory)) f i ≡ 0) cleans.keeps.layout (cleans.empty f came i)) cleans.keeps.others

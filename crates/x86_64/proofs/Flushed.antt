@@ -36,8 +36,8 @@ module _ (S : Type 0) (L size level : ℕ) (is : (page : ℕ) → item_of (page_
   abbrev items : SizeReply S → List flush.Item
   items told = map item_of (size_items L size told)
 
-  one_item : (l page : ℕ) → l ≡ level → (told : SizeReply S) → items told ≡ item_of (page_item L page size) ∷ [] → (answer : SizeReply S) → Some told ≡ Some answer → items answer ≡ flush.OnePage (path_at L l page) ∷ []
-  one_item l page on told here answer e = ap items (sym (same_Some _ _ e)) ∙ here ∙ ap (λ i. i ∷ []) (is page ∙ ap (λ l. flush.OnePage (path_at L l page)) (sym on))
+  one_item : (l page : ℕ) → Some l ≡ Some level → (told : SizeReply S) → items told ≡ item_of (page_item L page size) ∷ [] → (answer : SizeReply S) → Some told ≡ Some answer → items answer ≡ flush.OnePage (path_at L l page) ∷ []
+  one_item l page on told here answer e = ap items (sym (same_Some _ _ e)) ∙ here ∙ ap (λ i. i ∷ []) (is page ∙ ap (λ l. flush.OnePage (path_at L l page)) (sym (same_Some _ _ on)))
 
   none_refused : {E : Type 0} (wrap : E → SizeReply S) → ((why : E) → items (wrap why) ≡ []) → (error : Option E) (answer : SizeReply S) → option_map wrap error ≡ Some answer → items answer ≡ []
   none_refused wrap none None answer e = cc
@@ -58,7 +58,7 @@ module _ (S : Type 0) (L size level : ℕ) (is : (page : ℕ) → item_of (page_
   size_items_are (SetFlags at l page flags) on (Refused why) = none_refused (λ w. page_reply.TableFlags (Err w)) (λ w. refl) (update_error why)
   size_items_are (TranslatePage l page) on (Done f) = λ answer e. ap items (sym (same_Some _ _ e))
   size_items_are (TranslatePage l page) on (Refused why) = none_refused (λ w. page_reply.Frame (Err w)) (λ w. refl) (translate_error why)
-  size_items_are call on a = λ answer e. absurd on
+  size_items_are call on a = λ answer e. cc
 
 -- the item of a page of a size
 item_is : (L size page : ℕ) → IsLevelCount L → item_of (page_item L page size) ≡ flush.OnePage (path_at L (level_of_size size) page)

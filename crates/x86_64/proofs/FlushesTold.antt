@@ -57,7 +57,7 @@ changed q frame false None = refl
 changed q frame false (Some w) = refl
 
 not_allowed : (L : ℕ) (window : Option Window) (freed : List ℕ) (call : Call) (level : ℕ) → IsOnPage level call → flush_for (flush_after L window freed call machine.NotAllowed) ≡ Nothing
-not_allowed L window freed (CleanUp low high) level on = absurd on
+not_allowed L window freed (CleanUp low high) level on = cc
 not_allowed L window freed call level on = refl
 
 module _ {S : Type 0} (takes shown : Bool) where
@@ -72,8 +72,8 @@ module _ (S : Type 0) (L level : ℕ) (small : Bool) (is : (page : ℕ) → is_s
   abbrev shown : Bool
   shown = cond small false (is_some window)
 
-  changed_at : (l page frame : ℕ) → l ≡ level → flush_for (page_due L window (path_at L l page) frame) ≡ cond shown Everything Page
-  changed_at l page frame on = ap (λ b. flush_for (PageDue (path_at L l page) frame ∷ cond b [] (if_window window))) (ap (λ l. is_small L (path_at L l page)) on ∙ is page) ∙ changed (path_at L l page) frame small window
+  changed_at : (l page frame : ℕ) → Some l ≡ Some level → flush_for (page_due L window (path_at L l page) frame) ≡ cond shown Everything Page
+  changed_at l page frame on = ap (λ b. flush_for (PageDue (path_at L l page) frame ∷ cond b [] (if_window window))) (ap (λ l. is_small L (path_at L l page)) (same_Some _ _ on) ∙ is page) ∙ changed (path_at L l page) frame small window
 
   answer_tells : (call : Call) → IsOnPage level call → (a : Answer) (answer : SizeReply S) → size_reply call a ≡ Some answer → flush_for (flush_after L window freed call (machine.Answered a)) ≡ page_flush (takes call) shown answer
   answer_tells (MapTo l page frame flags) on (Done f) = by_answer false shown Nothing _ refl
@@ -90,7 +90,7 @@ module _ (S : Type 0) (L level : ℕ) (small : Bool) (is : (page : ℕ) → is_s
   answer_tells (SetFlags at l page flags) on (Refused why) = by_refusal false shown Nothing (λ w. page_reply.TableFlags (Err w)) (update_error why) (λ w. refl)
   answer_tells (TranslatePage l page) on (Done f) = by_answer false shown Nothing _ refl
   answer_tells (TranslatePage l page) on (Refused why) = by_refusal false shown Nothing (λ w. page_reply.Frame (Err w)) (translate_error why) (λ w. refl)
-  answer_tells call on a = λ answer e. absurd on
+  answer_tells call on a = λ answer e. cc
 
 pub told_by : (L : ℕ) → 3 < L → (window : Option Window) (freed : List ℕ) (call : Call) (r : machine.Reply) (x : Reply) → reply_of call r ≡ Some x
     → flush_for (flush_after L window freed call r) ≡ flush_by (takes call) (is_some window) x

@@ -7,13 +7,14 @@ use Rattle.x86_64_model.specs.Hierarchy.{◌laid_in◌, KeepsOthers, Owns, PoolF
 use Rattle.x86_64_model.specs.Lists.{In}
 use Rattle.x86_64_model.specs.Memory.{Memory, IsMapping, word}
 use Rattle.x86_64_model.specs.Pool.{IsTable, TakesBack, with_returned}
+use Rattle.x86_64_model.specs.Flushing.{freed_by}
 use Rattle.x86_64_model.proofs.Lemmas.CleanUps.Trees.{given_frames}
 use Rattle.x86_64_model.proofs.Lemmas.Hierarchies.Elsewhere.{same_word}
 use Rattle.x86_64_model.proofs.Lemmas.Hierarchies.Memories.{covered}
 use Rattle.x86_64_model.proofs.Lemmas.Lists.Members.{in_left, in_right, in_append}
 use Rattle.x86_64_model.proofs.Lemmas.Machines.Fitting.{own_there}
-use Rattle.x86_64.specs.FreeFrames.{KeepsFree, back_by}
-use Rattle.x86_64.specs.Runs.{machine_of, state_in}
+use Rattle.x86_64.specs.FreeFrames.{KeepsFree}
+use Rattle.x86_64.specs.Runs.{state_in}
 use Rattle.x86_64.proofs.ReplyCases.{IsOnPage}
 
 -- ---- one call
@@ -59,10 +60,10 @@ module _ (l : Layout) (mapping : IsMapping l.places) (serves : ℕ → Bool) (m 
       was f left none = ⊎_elim (λ came. absurd (none came)) (λ i. i) (in_append back pool f ((given_frames take_back gives pool back f).0 (subst (λ fs. In fs f) is left)))
 
 -- a call on a page returns no frame
-pub page_keeps_free : (l : Layout) (m : Memory) (pool : List ℕ) (take_back : List ℕ → ℕ → List ℕ) (level : ℕ) (call : Call) → IsOnPage level call → (n : Memory) (rest : List ℕ) → KeepsFree l m pool [] n rest
-    → KeepsFree l m pool (back_by (machine_of l take_back) (state_in l m pool) call) n rest
-page_keeps_free l m pool take_back level (CleanUp low high) on n rest keeps = absurd on
-page_keeps_free l m pool take_back level call on n rest keeps = keeps
+pub page_keeps_free : (l : Layout) (m : Memory) (pool : List ℕ) (level : ℕ) (call : Call) → IsOnPage level call → (n : Memory) (rest : List ℕ) → KeepsFree l m pool [] n rest
+    → KeepsFree l m pool (freed_by l.levels (state_in l m pool) call) n rest
+page_keeps_free l m pool level (CleanUp low high) on n rest keeps = cc
+page_keeps_free l m pool level call on n rest keeps = keeps
 
 -- ---- calls one after another
 

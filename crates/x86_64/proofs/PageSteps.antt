@@ -168,11 +168,11 @@ module _ {Lent S : Type 0} (h : Hierarchy Lent) {take_back : List ℕ → ℕ �
       → (r : Result ℕ (MapToError S)) (after : Hierarchy Lent) (rest : List ℕ) → DoesMap h pool call (map_answer frame r) after rest → IfOk r (λ flush. flush ≡ page)
       → (told : Result ℕ (MapToError S)) → told ≡ r → Is call after.memory rest (reply.Map told)
   map_served call is takes page frame replies r after rest does same told tells =
-      let steps = stepped h take_back pool call (map_answer frame r) after rest does.layout (map_leads h pool call (map_answer frame r) after rest does.outcome) in
+      let steps = stepped h take_back pool call (map_answer frame r) after rest does.keeps.layout (map_leads h pool call (map_answer frame r) after rest does.outcome) in
       let off = takes rest (ap (λ (x : AfterCall). x.state.pool) steps) in
       answered call is after.memory rest (map_answer frame r) steps
-      (subst (λ l. SupplyFits (l laid_in after.memory) rest) does.layout does.fits) (λ k none. does.others k (λ f uses. none f uses.0))
-      (map_keeps_free h.layout start.mapping serves h.memory pool start.fits after.memory off.0 rest off.1 does.others)
+      (subst (λ l. SupplyFits (l laid_in after.memory) rest) does.keeps.layout does.fits) (λ k none. does.keeps.others k (λ f uses. none f uses.0))
+      (map_keeps_free h.layout start.mapping serves h.memory pool start.fits after.memory off.0 rest off.1 does.keeps.others)
       (reply.Map told) (replies _ ∙ map_result page frame r same ∙ ap (λ r. Some (reply.Map r)) (sym tells)) (λ unchanged. cc)
 
   pub map_to_served : (page frame : ℕ) (flags : ℕ) (r : Result ℕ (MapToError S)) (after : Hierarchy Lent) (rest : List ℕ)
@@ -198,9 +198,9 @@ module _ {Lent S : Type 0} (h : Hierarchy Lent) {take_back : List ℕ → ℕ �
   change_served : (call : Call) → IsCall h.layout.levels call → (answer : Answer) (after : Hierarchy Lent) → Does h call answer after
       → (told : SizeReply S) → size_reply call answer ≡ Some told → (size_changes_nothing told ≡ true → refuses answer ≡ true) → Is call after.memory pool told
   change_served call is answer after does told tells still =
-      answered call is after.memory pool answer (stepped h take_back pool call answer after pool does.layout (change_leads h call answer after does.outcome pool))
-      (subst (λ l. SupplyFits (l laid_in after.memory) pool) does.layout (does.fits pool (ready_of_fits h.layout h.memory serves pool start.fits))) (λ k none. does.others k (λ f table. none f (inr table)))
-      (change_keeps_free h.layout start.mapping serves h.memory pool start.fits after.memory does.others) told tells (λ unchanged. does.refused (still unchanged))
+      answered call is after.memory pool answer (stepped h take_back pool call answer after pool does.keeps.layout (change_leads h call answer after does.outcome pool))
+      (subst (λ l. SupplyFits (l laid_in after.memory) pool) does.keeps.layout (does.fits pool (ready_of_fits h.layout h.memory serves pool start.fits))) (λ k none. does.keeps.others k (λ f table. none f (inr table)))
+      (change_keeps_free h.layout start.mapping serves h.memory pool start.fits after.memory does.keeps.others) told tells (λ unchanged. does.refused (still unchanged))
 
   pub unmap_served : (page : ℕ) (r : Result (ℕ × ℕ) UnmapError) (after : Hierarchy Lent) → Does h (Unmap level page) (unmap_answer r) after → IfOk r (λ unmapped. unmapped.1 ≡ page)
       → (told : Result (ℕ × ℕ) UnmapError) → told ≡ r → Is (Unmap level page) after.memory pool (reply.Unmap told)
@@ -235,10 +235,10 @@ pub record IsKept {Lent : Type 0} (h after : Hierarchy Lent) (served served_afte
   pub lent : after.lent ≡ h.lent
 
 pub map_kept : {Lent : Type 0} (h : Hierarchy Lent) {supply : List ℕ} {rule : Option AfterMap} {flags : Option ℕ} {answer : Answer} {after : Hierarchy Lent} {rest : List ℕ} {served served_after : ℕ → Bool} → Maps h supply rule flags answer after rest → served_after ≡ served → IsKept h after served served_after
-map_kept h does same = record { serves = same; layout = does.layout; lent = does.lent }
+map_kept h does same = record { serves = same; layout = does.keeps.layout; lent = does.keeps.lent }
 
 pub change_kept : {Lent : Type 0} (h : Hierarchy Lent) {rule : Option AfterChange} {answer : Answer} {after : Hierarchy Lent} {served : ℕ → Bool} → Changes h rule answer after → IsKept h after served served
-change_kept h does = record { serves = refl; layout = does.layout; lent = does.lent }
+change_kept h does = record { serves = refl; layout = does.keeps.layout; lent = does.keeps.lent }
 
 -- a call that isn't allowed changes nothing
 pub step_refused : {S : Type 0} (m : Machine) (s : State) (call : Call)

@@ -3,7 +3,7 @@ use Rattle.std.proofs.Common.{◌≡◌, ℕ, Bool, List, [], ◌∷◌, ◌++�
 use Rattle.x86_64_model.specs.Caches.{Cached}
 use Rattle.x86_64_model.specs.Call.{Call, IsCall}
 use Rattle.x86_64_model.specs.Flushing as kernel
-use Rattle.x86_64_model.specs.Flushing.{Due, PageDue, StayFree, System, Event, Makes, Writes, Flushes, Changes, MayHappen, MayMake, AllMayHappen, after_event, after_events, due_after, mapped_by, fresh}
+use Rattle.x86_64_model.specs.Flushing.{Due, PageDue, StayFree, System, Event, Makes, Writes, Flushes, Changes, MayHappen, MayMake, AllMayHappen, after_event, after_events, due_after, mapped_by, fresh, freed_by}
 use Rattle.x86_64_model.specs.Layout.{Layout}
 use Rattle.x86_64_model.specs.Laws.Caches.{CachesInTurn, Happens}
 use Rattle.x86_64_model.specs.Laws.Steps.{FitsState}
@@ -15,7 +15,7 @@ use Rattle.x86_64_model.specs.Path.{is_below}
 use Rattle.x86_64_model.proofs.Lemmas.Caches.Runs.{flushes_are_enough}
 use Rattle.x86_64_model.proofs.Lemmas.Caches.Whole.{calls_may_happen}
 use Rattle.x86_64.specs.FlushesDue.{settles_any}
-use Rattle.x86_64.specs.FreeFrames.{KeepsFree, back_by}
+use Rattle.x86_64.specs.FreeFrames.{KeepsFree}
 use Rattle.x86_64.specs.Processors.{system_in, IsReachable, LeftBy, NoneLoses, ArisesFirst, ArisesByCaching, ArisesByCalls, ArisesByFlushes, FlushedAccessesGo}
 use Rattle.x86_64.proofs.CallEvents.{run_calls_are_events}
 
@@ -79,7 +79,7 @@ module _ (l : Layout) (take_back : List ℕ → ℕ → List ℕ) (serves : ℕ 
   called : (m n : Memory) (pool rest : List ℕ) (cached : List Cached) (due : List Due) (call : Call) (loses : Bool) → As (system_in l m pool cached due) → IsCall l.levels call
       → StayFree due pool rest → ((q r : List ℕ) (frame : ℕ) → In due (PageDue q frame) → mapped_by l.levels call ≡ Some r → is_below q r ≡ false)
       → (loses ≡ false → NoneLoses machine (state_in l m pool) call) → PoolFits (l laid_in m) serves pool
-      → (step machine (state_in l m pool) call).state ≡ state_in l n rest → KeepsFree l m pool (back_by machine (state_in l m pool) call) n rest → PoolFits (l laid_in n) serves rest
+      → (step machine (state_in l m pool) call).state ≡ state_in l n rest → KeepsFree l m pool (freed_by l.levels (state_in l m pool) call) n rest → PoolFits (l laid_in n) serves rest
       → As (system_in l n rest cached (cond loses (due_after machine (state_in l m pool) call) [] ++ due))
   called m n pool rest cached due call loses a is waits apart kept_all fits steps free kept =
       let now = system_in l m pool cached due in

@@ -2,7 +2,7 @@
 use Rattle.std.proofs.Common.{zero, suc, ◌≡◌, ℕ, Option, Some, None, option_map, refl, ap, subst}
 use Rattle.std.proofs.lemmas.Option.{same_Some}
 use Rattle.x86_64_model.specs.Call as machine
-use Rattle.x86_64_model.specs.Call.{Call, MapTo, MapToWithTableFlags, IdentityMap, Unmap, UpdateFlags, SetFlags, TranslatePage, Translate, TranslateAddress, CleanUp}
+use Rattle.x86_64_model.specs.Call.{Call, Translate, TranslateAddress, CleanUp}
 use Rattle.x86_64_model.specs.Refusal.{Answer}
 use Rattle.x86_64_model.specs.Translation.{Translated}
 use Rattle.x86_64_page.specs.declared.page.Size4KiB.{Size4KiB as Small}
@@ -13,35 +13,22 @@ use Rattle.x86_64.specs.declared.call_values.MapperReply.TheVariants as reply
 use Rattle.x86_64.specs.declared.call_values.SizeCallIn.{SizeCallIn}
 use Rattle.x86_64.specs.declared.call_values.SizeCallIn.TheVariants as size
 use Rattle.x86_64.specs.Calls.{page_call}
-use Rattle.x86_64.specs.Replies.{SizeReply, Reply, sized, translate_result, reply_of}
+use Rattle.x86_64.specs.Replies.{SizeReply, Reply, if_on_page, sized, translate_result, reply_of}
 use Rattle.x86_64.specs.private.Served.{size_reply}
 
 -- the call is one on a page of the level
 abbrev pub IsOnPage : (level : ℕ) → Call → Type 0
-IsOnPage level (MapTo l page frame flags) = l ≡ level
-IsOnPage level (MapToWithTableFlags l page frame flags parent_flags) = l ≡ level
-IsOnPage level (IdentityMap l frame flags) = l ≡ level
-IsOnPage level (Unmap l page) = l ≡ level
-IsOnPage level (UpdateFlags l page flags) = l ≡ level
-IsOnPage level (SetFlags at l page flags) = l ≡ level
-IsOnPage level (TranslatePage l page) = l ≡ level
-IsOnPage level call = ⊥
+IsOnPage level call = if_on_page (λ l replies. Some l) call ≡ Some level
 
 pub is_on_page : {S L P5 : Type 0} (level : ℕ) (bits : P5 → ℕ) (call : SizeCallIn S L P5) → IsOnPage level (page_call level bits call)
 is_on_page level bits (size.Unmap page) = refl
 is_on_page level bits call = refl
 
 pub page_reply : (call : Call) (level : ℕ) → IsOnPage level call → (r : machine.Reply) → reply_of call r ≡ sized (λ S. size_reply call) r level
-page_reply (MapTo l page frame flags) level on r = ap (sized (λ S. size_reply (MapTo l page frame flags)) r) on
-page_reply (MapToWithTableFlags l page frame flags more) level on r = ap (sized (λ S. size_reply (MapToWithTableFlags l page frame flags more)) r) on
-page_reply (IdentityMap l frame flags) level on r = ap (sized (λ S. size_reply (IdentityMap l frame flags)) r) on
-page_reply (Unmap l page) level on r = ap (sized (λ S. size_reply (Unmap l page)) r) on
-page_reply (UpdateFlags l page flags) level on r = ap (sized (λ S. size_reply (UpdateFlags l page flags)) r) on
-page_reply (SetFlags at l page flags) level on r = ap (sized (λ S. size_reply (SetFlags at l page flags)) r) on
-page_reply (TranslatePage l page) level on r = ap (sized (λ S. size_reply (TranslatePage l page)) r) on
-page_reply (Translate p) level on r = absurd on
-page_reply (TranslateAddress p) level on r = absurd on
-page_reply (CleanUp low high) level on r = absurd on
+page_reply (Translate p) level on r = cc
+page_reply (TranslateAddress p) level on r = cc
+page_reply (CleanUp low high) level on r = cc
+page_reply call level on r = ap (sized (λ S. size_reply call) r) (same_Some _ _ on)
 
 -- what holds of each reply that a call may get holds of the reply
 module _ (P : Call → machine.Reply → Reply → Type 0)
@@ -68,14 +55,10 @@ module _ (P : Call → machine.Reply → Reply → Type 0)
   on_page call level on machine.Cleaned x e = cc
 
   pub reply_cases : (call : Call) (r : machine.Reply) (x : Reply) → reply_of call r ≡ Some x → P call r x
-  reply_cases (MapTo level page frame flags) r x e = on_page (MapTo level page frame flags) level refl r x e
-  reply_cases (MapToWithTableFlags level page frame flags more) r x e = on_page (MapToWithTableFlags level page frame flags more) level refl r x e
-  reply_cases (IdentityMap level frame flags) r x e = on_page (IdentityMap level frame flags) level refl r x e
-  reply_cases (Unmap level page) r x e = on_page (Unmap level page) level refl r x e
-  reply_cases (UpdateFlags level page flags) r x e = on_page (UpdateFlags level page flags) level refl r x e
-  reply_cases (SetFlags at level page flags) r x e = on_page (SetFlags at level page flags) level refl r x e
-  reply_cases (TranslatePage level page) r x e = on_page (TranslatePage level page) level refl r x e
   reply_cases (Translate p) (machine.Position t) x e = by_some _ _ reply.Translate (translate_result t) (translated p t) x e
+  reply_cases (Translate p) r x e = cc
   reply_cases (TranslateAddress p) (machine.Address a) x e = subst (P (TranslateAddress p) (machine.Address a)) (same_Some _ _ e) (address p a)
+  reply_cases (TranslateAddress p) r x e = cc
   reply_cases (CleanUp low high) machine.Cleaned x e = subst (P (CleanUp low high) machine.Cleaned) (same_Some _ _ e) (cleaned low high)
-  reply_cases call r x e = cc
+  reply_cases (CleanUp low high) r x e = cc
+  reply_cases call r x e = on_page call _ refl r x e

@@ -10,10 +10,11 @@ use Rattle.x86_64_model.specs.Layout.{Layout}
 use Rattle.x86_64_model.specs.Machine.{Machine, State, state_after}
 use Rattle.x86_64_model.specs.Hierarchy.{Hierarchy}
 use Rattle.x86_64_model.specs.Store.{Store, KeepsPool}
+use Rattle.x86_64_model.specs.Flushing.{freed_by}
 use Rattle.x86_64_tables.specs.declared.tokens.recorder.FlushItem.{FlushItem}
 use Rattle.x86_64.specs.Flushes.{flush_items_of, items_told}
 use Rattle.x86_64.specs.private.Served.{recorded}
-use Rattle.x86_64.specs.FreeFrames.{KeepsFree, back_by, all_back}
+use Rattle.x86_64.specs.FreeFrames.{KeepsFree, all_back}
 use Rattle.x86_64.specs.Runs.{machine_of, state_in, Keeps, AfterStep, step_by, replies_to, appended, UnchangedIfRefused}
 use Rattle.x86_64.specs.Replies.{Reply, changes_nothing}
 use Rattle.x86_64.proofs.Keeping.{keeps_then}
@@ -36,10 +37,10 @@ module _ {C : Type 0} (asks : C → Call) (m : Machine) (s t : State) (r : Reply
   rest_next all before = ap (λ (x : AfterStep Reply). state_after m x.state (map asks (drop (i + 1) calls))) (sym one) ∙ ap (λ cs. state_after m s (map asks cs)) (sym (left calls i call here item)) ∙ before
 
   -- the frames that are returned from here on
-  pub back_next : all_back m s (map asks (drop i calls)) ≡ back_by m s (asks call) ++ all_back m t (map asks (drop (i + 1) calls))
+  pub back_next : all_back m s (map asks (drop i calls)) ≡ freed_by m.levels s (asks call) ++ all_back m t (map asks (drop (i + 1) calls))
   back_next =
       ap (λ cs. all_back m s (map asks cs)) (left calls i call here item)
-      ∙ ap (λ (x : AfterStep Reply). back_by m s (asks call) ++ all_back m x.state (map asks (drop (i + 1) calls))) one
+      ∙ ap (λ (x : AfterStep Reply). freed_by m.levels s (asks call) ++ all_back m x.state (map asks (drop (i + 1) calls))) one
 
 -- ---- the replies that were appended
 
@@ -120,8 +121,8 @@ module _ (k l : Layout) (same : l ≡ k) (take_back : List ℕ → ℕ → List 
   pub step_at : (call : Call) (r : Reply) → step_by (machine_of l take_back) (state_in l n rest) call ≡ record { state = state_in l o last; reply = Some r } → step_by (machine_of k take_back) (state_in k n rest) call ≡ record { state = state_in k o last; reply = Some r }
   step_at call r = subst (λ l. step_by (machine_of l take_back) (state_in l n rest) call ≡ record { state = state_in l o last; reply = Some r }) same
 
-  pub free_at : (call : Call) → KeepsFree l n rest (back_by (machine_of l take_back) (state_in l n rest) call) o last → KeepsFree k n rest (back_by (machine_of k take_back) (state_in k n rest) call) o last
-  free_at call = subst (λ l. KeepsFree l n rest (back_by (machine_of l take_back) (state_in l n rest) call) o last) same
+  pub free_at : (call : Call) → KeepsFree l n rest (freed_by l.levels (state_in l n rest) call) o last → KeepsFree k n rest (freed_by k.levels (state_in k n rest) call) o last
+  free_at call = subst (λ l. KeepsFree l n rest (freed_by l.levels (state_in l n rest) call) o last) same
 
 pub kept_then : {Lent : Type 0} (h now after : Hierarchy Lent) (store left last : Store) → Keeps h store now left → Keeps now left after last → Keeps h store after last
 kept_then h now after store left last one next = record {

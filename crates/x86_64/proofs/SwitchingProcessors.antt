@@ -25,7 +25,7 @@ use Rattle.x86_64_model.proofs.Lemmas.Switches.Layouts.{like, is_like, spaces_ma
 use Rattle.x86_64_model.proofs.Lemmas.Switches.Runs.{switches_are_flushed}
 use Rattle.x86_64.specs.Calls.{page_of_call}
 use Rattle.x86_64.specs.FlushesDue.{InPages, executed, settles_any, flush_for}
-use Rattle.x86_64.specs.FreeFrames.{KeepsFree, back_by}
+use Rattle.x86_64.specs.FreeFrames.{KeepsFree}
 use Rattle.x86_64.specs.Processors.{NoneLoses}
 use Rattle.x86_64.specs.Replies.{Reply}
 use Rattle.x86_64.specs.Runs.{AfterStep, step_by}
@@ -100,8 +100,8 @@ module _ (k : Kernel) (places : Places) (mapping : IsMapping places) (levels : 0
   loses_nothing : loses ≡ false → NoneLoses (machine_of l k.take_back) from call
   loses_nothing not_so = subst (λ (l : Layout). NoneLoses (machine_of l k.take_back) (state_in l m pool) call) alike (runs.loses_nothing not_so)
 
-  free : KeepsFree l m pool (back_by (machine_of l k.take_back) from call) n rest
-  free = subst (λ (l : Layout). KeepsFree l m pool (back_by (machine_of l k.take_back) (state_in l m pool) call) n rest) alike runs.free
+  free : KeepsFree l m pool (freed_by l.levels from call) n rest
+  free = subst (λ (l : Layout). KeepsFree l m pool (freed_by l.levels (state_in l m pool) call) n rest) alike runs.free
 
   same_due : made_by k l m pool call loses ≡ made_by k one m pool call loses
   same_due = ap (λ (l : Layout). made_by k l m pool call loses) (sym alike)

@@ -97,7 +97,7 @@ module _ {S : Type 0} where
   answer_back (SetFlags at l page flags) level on (Refused why) = refused_back (λ w. TableFlags (Err w)) why (update_error why) (λ w is. ap (λ x. machine.Answered (Refused x)) (update_back why w is))
   answer_back (TranslatePage l page) level on (Done f) = done_back _
   answer_back (TranslatePage l page) level on (Refused why) = refused_back (λ w. Frame (Err w)) why (translate_error why) (λ w is. ap (λ x. machine.Answered (Refused x)) (translate_back why w is))
-  answer_back call level on a = λ answer e. absurd on
+  answer_back call level on a = λ answer e. cc
 
 -- ---- all replies
 

@@ -4,7 +4,7 @@ use Rattle.x86_64_model.specs.Caches.{PartialWalk, Cached, MayAccess, walk_with_
 use Rattle.x86_64_model.specs.Call.{Call, IsCall}
 use Rattle.x86_64_model.specs.Flushing as kernel
 use Rattle.x86_64_model.specs.Entry.{used}
-use Rattle.x86_64_model.specs.Flushing.{Due, PageDue, Event, System, StayFree, LosesNothing, due_after, mapped_by, survives}
+use Rattle.x86_64_model.specs.Flushing.{Due, PageDue, Event, System, StayFree, LosesNothing, due_after, mapped_by, survives, freed_by}
 use Rattle.x86_64_model.specs.Layout.{Layout}
 use Rattle.x86_64_model.specs.Laws.Caches.{CachesInTurn, Happens, WalksThere}
 use Rattle.x86_64_model.specs.Laws.Steps.{FitsState}
@@ -17,7 +17,7 @@ use Rattle.x86_64_model.specs.PathMap.{entry}
 use Rattle.x86_64_model.specs.Window.{Window}
 use Rattle.x86_64.specs.Calls.{page_of_call}
 use Rattle.x86_64.specs.FlushesDue.{TellsFlush, executed, settles_any}
-use Rattle.x86_64.specs.FreeFrames.{KeepsFree, back_by}
+use Rattle.x86_64.specs.FreeFrames.{KeepsFree}
 use Rattle.x86_64.specs.Replies.{Reply}
 use Rattle.x86_64.specs.Runs.{step_by}
 use Rattle.x86_64.specs.declared.flushing.Flush.{Flush}
@@ -72,7 +72,7 @@ ArisesByCalls = (l : Layout) (take_back : List ℕ → ℕ → List ℕ) (serves
     → let machine = machine_of l take_back in
     IsReachable l take_back serves m pool cached due → IsCall l.levels call → StayFree due pool rest
     → ((q r : List ℕ) (frame : ℕ) → In due (PageDue q frame) → mapped_by l.levels call ≡ Some r → is_below q r ≡ false) → (loses ≡ false → NoneLoses machine (state_in l m pool) call) → PoolFits (l laid_in m) serves pool
-    → (step machine (state_in l m pool) call).state ≡ state_in l n rest → KeepsFree l m pool (back_by machine (state_in l m pool) call) n rest → PoolFits (l laid_in n) serves rest
+    → (step machine (state_in l m pool) call).state ≡ state_in l n rest → KeepsFree l m pool (freed_by l.levels (state_in l m pool) call) n rest → PoolFits (l laid_in n) serves rest
     → IsReachable l take_back serves n rest cached (cond loses (due_after machine (state_in l m pool) call) [] ++ due)
 
 -- A flush leaves due what it doesn't settle.
@@ -86,7 +86,7 @@ abbrev pub ArisesByFlushedCalls : Type 0
 ArisesByFlushedCalls = (l : Layout) (take_back : List ℕ → ℕ → List ℕ) (serves : ℕ → Bool) (m n : Memory) (pool rest : List ℕ) (call : Call) (reply : Reply) (loses : Bool)
     → let machine = machine_of l take_back in
     IsCall l.levels call → PoolFits (l laid_in m) serves pool → step_by machine (state_in l m pool) call ≡ record { state = state_in l n rest; reply = Some reply }
-    → KeepsFree l m pool (back_by machine (state_in l m pool) call) n rest → PoolFits (l laid_in n) serves rest
+    → KeepsFree l m pool (freed_by l.levels (state_in l m pool) call) n rest → PoolFits (l laid_in n) serves rest
     → (loses ≡ false → NoneLoses machine (state_in l m pool) call)
     → (flush : Flush) → TellsFlush l.levels call reply (option_map (λ (w : Window). w.index) l.window) loses flush
     → (before first second after : List Cached) → IsReachable l take_back serves m pool before [] → CachesOften l.levels l.root (words (l laid_in m)) before first

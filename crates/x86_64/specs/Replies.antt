@@ -85,19 +85,24 @@ sized replies (machine.Answered answer) (suc (suc zero)) = option_map reply.Of2M
 sized replies (machine.Answered answer) (suc (suc (suc zero))) = option_map reply.Of1GiB (replies Giant answer)
 sized replies r level = None
 
+-- The result of `by` for a call on a page, or `None` for any other call. It takes the level of the page, and the reply that the machine's
+-- answer becomes for a page of the size S.
+abbrev pub if_on_page : {R : Type 0} → ((level : ℕ) → (replies : (S : Type 0) → Answer → Option (SizeReply S)) → Option R) → Call → Option R
+if_on_page by (MapTo level page frame flags) = by level (λ S. result_reply page_reply.Map (λ mapped. page) map_error)
+if_on_page by (MapToWithTableFlags level page frame flags parent_flags) = by level (λ S. result_reply page_reply.Map (λ mapped. page) map_error)
+if_on_page by (IdentityMap level frame flags) = by level (λ S. result_reply page_reply.Map (λ mapped. frame) map_error)
+if_on_page by (Unmap level page) = by level (λ S. result_reply page_reply.Unmap (λ frame. (frame, page)) unmap_error)
+if_on_page by (UpdateFlags level page flags) = by level (λ S. result_reply page_reply.Update (λ frame. page) update_error)
+if_on_page by (SetFlags at level page flags) = by level (λ S. result_reply page_reply.TableFlags (λ frame. tt) update_error)
+if_on_page by (TranslatePage level page) = by level (λ S. result_reply page_reply.Frame (λ frame. frame) translate_error)
+if_on_page by call = None
+
 -- The reply to a call for the machine's reply, or `None` if the machine never replies to this call so.
 abbrev pub reply_of : Call → machine.Reply → Option Reply
-reply_of (MapTo level page frame flags) r = sized (λ S. result_reply page_reply.Map (λ mapped. page) map_error) r level
-reply_of (MapToWithTableFlags level page frame flags parent_flags) r = sized (λ S. result_reply page_reply.Map (λ mapped. page) map_error) r level
-reply_of (IdentityMap level frame flags) r = sized (λ S. result_reply page_reply.Map (λ mapped. frame) map_error) r level
-reply_of (Unmap level page) r = sized (λ S. result_reply page_reply.Unmap (λ frame. (frame, page)) unmap_error) r level
-reply_of (UpdateFlags level page flags) r = sized (λ S. result_reply page_reply.Update (λ frame. page) update_error) r level
-reply_of (SetFlags at level page flags) r = sized (λ S. result_reply page_reply.TableFlags (λ frame. tt) update_error) r level
-reply_of (TranslatePage level page) r = sized (λ S. result_reply page_reply.Frame (λ frame. frame) translate_error) r level
 reply_of (Translate position) (machine.Position translated) = option_map reply.Translate (translate_result translated)
 reply_of (TranslateAddress position) (machine.Address address) = Some (reply.Address address)
 reply_of (CleanUp low high) machine.Cleaned = Some reply.Cleaned
-reply_of call r = None
+reply_of call r = if_on_page (λ level replies. sized replies r level) call
 
 -- ---- replies of calls that change nothing
 

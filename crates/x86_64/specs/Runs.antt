@@ -8,7 +8,8 @@ pub use Rattle.x86_64_model.specs.Hierarchy.{machine_of, state_in, PoolFits}
 pub use Rattle.x86_64_model.specs.Store.{Keeps, KeepsPool}
 use Rattle.x86_64_model.specs.Hierarchy.{Hierarchy}
 use Rattle.x86_64_model.specs.Store.{Store}
-use Rattle.x86_64.specs.FreeFrames.{KeepsFree, back_by, all_back}
+use Rattle.x86_64_model.specs.Flushing.{freed_by}
+use Rattle.x86_64.specs.FreeFrames.{KeepsFree, all_back}
 use Rattle.x86_64.specs.Replies.{Reply, reply_of, changes_nothing}
 
 -- The replies to a list of calls, one for each, from a state of the machine on. `asks` turns each call into one of the model.
@@ -51,7 +52,7 @@ Stepped h store call reply after rest = step_by (machine_with h store) (state_wi
 -- What a call leaves in the frames that are free afterwards: the returned ones hold zeros, and the others keep their words.
 abbrev pub LeavesFree : {Lent : Type 0} → (h : Hierarchy Lent) → Store → Call → (after : Hierarchy Lent) → (rest : List ℕ) → Type 0
 LeavesFree h store call after rest =
-    KeepsFree h.layout h.memory store.frames (back_by (machine_with h store) (state_with h store) call) after.memory rest
+    KeepsFree h.layout h.memory store.frames (freed_by h.layout.levels (state_with h store) call) after.memory rest
 
 -- A list of calls was executed. The machine's replies, one per call, follow those of before, and the state is the machine's. If
 -- every reply shows that nothing changed, no word did. Free frames keep their words, except that returned frames hold zeros.

@@ -4,7 +4,7 @@ use Rattle.std.specs.Prelude.{◌≡◌, ◌≢◌, ◌<◌, ◌++◌, ℕ, Bool
 use Rattle.x86_64_model.specs.Caches.{PartialWalk, MayAccess, walk_with_rights}
 use Rattle.x86_64_model.specs.Call.{Call, IsCall}
 use Rattle.x86_64_model.specs.Entry.{IsParentFlags}
-use Rattle.x86_64_model.specs.Flushing.{Due, PageDue, StayFree, due_after, mapped_by}
+use Rattle.x86_64_model.specs.Flushing.{Due, PageDue, StayFree, due_after, mapped_by, freed_by}
 use Rattle.x86_64_model.specs.Laws.Caches.{WalksThere}
 use Rattle.x86_64_model.specs.Laws.Spaces.{KeepsRootEntries}
 use Rattle.x86_64_model.specs.Laws.SwitchedSpaces.{between, started_in, AllShare, MaySwitchIn}
@@ -23,7 +23,7 @@ use Rattle.x86_64_model.specs.Tags.{Tag, Tagged, Of, TaggedFlush, Invlpg, Invpci
 use Rattle.x86_64_model.specs.Window.{Window}
 use Rattle.x86_64.specs.Calls.{page_of_call}
 use Rattle.x86_64.specs.FlushesDue.{TellsFlush, InPages, flush_for}
-use Rattle.x86_64.specs.FreeFrames.{KeepsFree, back_by}
+use Rattle.x86_64.specs.FreeFrames.{KeepsFree}
 use Rattle.x86_64.specs.Processors.{NoneLoses}
 use Rattle.x86_64.specs.Replies.{Reply}
 use Rattle.x86_64.specs.Runs.{step_by}
@@ -54,7 +54,7 @@ pub record RunsOn (k : Kernel) (places : Places) (sharing : (root other : ℕ) �
     (loses : Bool) (reaches : ℕ → Bool) (everywhere : Bool) : Type 0 where
   pub steps : step_by (machine_of one k.take_back) (state_in one m pool) call
       ≡ record { state = state_in one n rest; reply = Some reply }
-  pub free : KeepsFree one m pool (back_by (machine_of one k.take_back) (state_in one m pool) call) n rest
+  pub free : KeepsFree one m pool (freed_by one.levels (state_in one m pool) call) n rest
   pub keeps : KeepsPool one k.serves m pool n rest
   pub is_call : IsCall one.levels call
   pub adds : IsParentFlags one.added_flags

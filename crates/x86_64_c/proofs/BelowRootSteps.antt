@@ -2,6 +2,7 @@
 use Rattle.std.proofs.Common.{◌≡◌, ℕ, ◌+◌, Bool, List, Some, None, refl, sym, ◌∙◌, subst₂}
 use Rattle.x86_64_mappers.proofs.CleanUp.BelowRootSpaces.{keeps}
 use Rattle.x86_64_mappers.specs.CleanUpsBelowRoot.{CleansUpBelowRoot}
+use Rattle.x86_64_model.proofs.Lemmas.Machines.WordsAlone.{in_words, frees_alone}
 use Rattle.x86_64_model.specs.Hierarchy.{Hierarchy}
 use Rattle.x86_64_model.specs.Layout.{Layout}
 use Rattle.x86_64_model.specs.Memory.{Memory}
@@ -13,29 +14,18 @@ use Rattle.x86_64_c.specs.PoolCalls.{loan, to_clean_up, wrong_pool_call}
 use Rattle.x86_64_c.specs.Status.{ok}
 use Rattle.x86_64_c.specs.declared.arguments.Hierarchy.{Hierarchy as Given}
 use Rattle.x86_64_c.specs.private.Pools.{Leaves}
-use Rattle.x86_64_c.proofs.EntryChanges.{in_memory, of}
-
-seen : {Lent : Type 0} (h after : Hierarchy Lent) (store rest : Store) (low high : ℕ) → CleansUpBelowRoot h store low high after rest
-    → CleansUpBelowRoot (of h.layout h.memory) store low high (of after.layout after.memory) rest
-seen h after store rest low high cleans = record {
-  outcome = cleans.outcome;
-  returned = cleans.returned;
-  serves = cleans.serves;
-  valid = cleans.valid;
-  root_entries = cleans.root_entries;
-  walks = cleans.walks;
-  conserved = cleans.conserved;
-  fits = cleans.fits;
-  empty = cleans.empty;
-  others = cleans.others;
-  layout = cleans.layout;
-  lent = refl;
-}
+use Rattle.x86_64_c.proofs.EntryChanges.{of}
 
 did : {Lent : Type 0} (h after : Hierarchy Lent) (l : Layout) (m n : Memory) → h.layout ≡ l → h.memory ≡ m → after.memory ≡ n → (store rest : Store) (low high : ℕ)
     → CleansUpBelowRoot h store low high after rest → CleansUpBelowRoot (of l m) store low high (of l n) rest
 did h after l m n layout memory gone store rest low high cleans =
-    in_memory h after l m n layout memory gone cleans.layout (λ before after. CleansUpBelowRoot before store low high after rest) (seen h after store rest low high cleans)
+    in_words h after l m n layout memory gone cleans.cleans.keeps.layout (λ before last. CleansUpBelowRoot before store low high last rest) (record {
+      cleans = frees_alone cleans.cleans;
+      serves = cleans.serves;
+      root_entries = cleans.root_entries;
+      walks = cleans.walks;
+      conserved = cleans.conserved;
+    })
 
 -- a clean up with a store whose supply is what it holds
 module _ {Lent : Type 0} (h after : Hierarchy Lent) (l : Layout) (m n : Memory) (layout : h.layout ≡ l) (memory : h.memory ≡ m) (gone : after.memory ≡ n) (serves left_serves : ℕ → Bool)

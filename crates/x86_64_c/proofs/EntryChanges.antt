@@ -1,5 +1,5 @@
 -- A change of one entry, stated of the words in the caller's memory.
-use Rattle.std.proofs.Common.{◌≡◌, ◌≤◌, ◌<◌, inr, ℕ, Bool, true, cond, List, ◌∷◌, refl, sym, ap, ◌∙◌, subst, arith}
+use Rattle.std.proofs.Common.{◌≡◌, ◌≤◌, ◌<◌, inr, ℕ, Bool, true, cond, List, ◌∷◌, sym, ap, ◌∙◌, subst, arith}
 use Rattle.std.proofs.lemmas.List.Sorted.{IsPermutation-refl}
 use Rattle.x86_64_model.specs.Call.{Call, IsCall, IsPageLevel, Answered, NotAllowed}
 use Rattle.x86_64_model.specs.Entry.{IsParentFlags}
@@ -12,6 +12,7 @@ use Rattle.x86_64_model.specs.Refusal.{Answer}
 use Rattle.x86_64_model.proofs.Lemmas.Machines.Fitting.{ready_of_fits}
 use Rattle.x86_64_model.proofs.Lemmas.Machines.Giving.{giving_from}
 use Rattle.x86_64_model.proofs.Lemmas.Machines.Owners.{change_leads}
+use Rattle.x86_64_model.proofs.Lemmas.Machines.WordsAlone.{in_words, changes_alone}
 use Rattle.x86_64_mappers.specs.private.ImplLaws.{no_flags}
 use Rattle.x86_64.proofs.Keeping.{keeps_step}
 use Rattle.x86_64_c.specs.Calls.{Changes, answer_status}
@@ -30,23 +31,11 @@ keeps : {Lent : Type 0} (h after : Hierarchy Lent) (call : Call) (answer : Answe
 keeps h after call answer adds is may does serves pool fits =
     let machine = machine_of h.layout put_first in
     let before = state_in h.layout h.memory pool in
-    let did = subst (λ l. do_call machine before call ≡ record { state = state_in l after.memory pool; reply = Answered answer }) does.layout (change_leads h call answer after does.outcome pool put_first) in
+    let did = subst (λ l. do_call machine before call ≡ record { state = state_in l after.memory pool; reply = Answered answer }) does.keeps.layout (change_leads h call answer after does.outcome pool put_first) in
     let one : step machine before call ≡ record { state = state_in h.layout after.memory pool; reply = Answered answer } =
     ap (λ b. cond b (do_call machine before call) (only_reply before NotAllowed)) may ∙ did in
     keeps_step h.layout adds put_first gives serves h.memory pool fits call is after.memory pool (sym (ap (λ (x : AfterCall). x.state) one))
-    (subst (λ l. SupplyFits (of l after.memory) pool) does.layout (does.fits pool (ready_of_fits h.layout h.memory serves pool fits))) (λ k none. does.others k (λ f table. none f (inr table)))
-
--- what a mapper did, of the words alone
-seen : {Lent : Type 0} (h after : Hierarchy Lent) (call : Call) (answer : Answer) → Does h call answer after → Does (of h.layout h.memory) call answer (of after.layout after.memory)
-seen h after call answer does = record {
-  outcome = does.outcome;
-  valid = does.valid;
-  fits = does.fits;
-  others = does.others;
-  refused = does.refused;
-  layout = does.layout;
-  lent = refl;
-}
+    (subst (λ l. SupplyFits (of l after.memory) pool) does.keeps.layout (does.fits pool (ready_of_fits h.layout h.memory serves pool fits))) (λ k none. does.keeps.others k (λ f table. none f (inr table)))
 
 -- what the words in the caller's memory say holds of a mapper's layout and memory
 module _ (k l : Layout) (n m : Memory) (layout : k ≡ l) (memory : n ≡ m) where
@@ -59,20 +48,11 @@ module _ (k l : Layout) (n m : Memory) (layout : k ≡ l) (memory : n ≡ m) whe
   pub supply_over : (serves : ℕ → Bool) (pool : List ℕ) → PoolFits (of l m) serves pool → SupplyFits (of k n) pool
   supply_over serves pool fits = over (λ a. SupplyFits a pool) (ready_of_fits l m serves pool fits)
 
--- and what holds of its words before and after holds of those in the caller's memory
-pub in_memory : {Lent : Type 0} (h after : Hierarchy Lent) (l : Layout) (m n : Memory) → h.layout ≡ l → h.memory ≡ m → after.memory ≡ n → after.layout ≡ h.layout
-    → (P : (before after : Hierarchy (Unit {0})) → Type 0) → P (of h.layout h.memory) (of after.layout after.memory) → P (of l m) (of l n)
-in_memory h after l m n layout memory left same P seen =
-    subst (λ l. P (of l m) (of l n)) layout
-    (subst (λ m. P (of h.layout m) (of h.layout n)) memory
-    (subst (λ n. P (of h.layout h.memory) (of h.layout n)) left
-    (subst (λ k. P (of h.layout h.memory) (of k after.memory)) same seen)))
-
 pub changes : {Lent : Type 0} (h after : Hierarchy Lent) (l : Layout) (m n : Memory) → h.layout ≡ l → h.memory ≡ m → after.memory ≡ n
     → (call : Call) (answer : Answer) (status : ℕ) → IsParentFlags l.added_flags → IsCall l.levels call → allows (of l m) call ≡ true
     → Does h call answer after → status ≡ answer_status answer → Changes (of l m) call answer (of l n) status
 changes h after l m n layout memory left call answer status adds is may does told =
-    let did = in_memory h after l m n layout memory left does.layout (λ before after. Does before call answer after) (seen h after call answer does) in
+    let did = in_words h after l m n layout memory left does.keeps.layout (λ before last. Does before call answer last) (changes_alone does) in
     record { does = did; status_is = told; keeps = keeps (of l m) (of l n) call answer adds is may did }
 
 -- a mapper without recursive index adds no flags to the parent flags

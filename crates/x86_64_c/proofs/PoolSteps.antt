@@ -1,8 +1,9 @@
 -- What a mapper did with a pool is the machine's step, stated of the words in the caller's memory.
 use Rattle.std.proofs.Common.{zero, suc, ◌≡◌, ◌<◌, ◌≤◌, ℕ, true, false, cond, List, Some, option_map, Result, Ok, Err, refl, sym, ap, ◌∙◌, subst, arith}
 use Rattle.std.specs.Result.{IfOk}
-use Rattle.x86_64_live.proofs.CleanUpsInWords.{clean_up_did as in_words}
+use Rattle.x86_64_live.proofs.CleanUpsInWords.{clean_up_did as cleaned_in_words}
 use Rattle.x86_64_model.proofs.Lemmas.Machines.Owners.{clean_up_leads, map_leads}
+use Rattle.x86_64_model.proofs.Lemmas.Machines.WordsAlone.{in_words, maps_alone}
 use Rattle.x86_64_model.specs.Call as machine
 use Rattle.x86_64_model.specs.Call.{Call, MapToWithTableFlags}
 use Rattle.x86_64_model.specs.Entry.{IsParentFlags}
@@ -28,7 +29,7 @@ use Rattle.x86_64.proofs.PageSteps.{Start, map_with_flags_served}
 use Rattle.x86_64_c.specs.Calls.{reply_status, result_status}
 use Rattle.x86_64_c.specs.PoolCalls.{RunsCall}
 use Rattle.x86_64_c.specs.Status.{ok, not_allowed}
-use Rattle.x86_64_c.proofs.EntryChanges.{in_memory, of}
+use Rattle.x86_64_c.proofs.EntryChanges.{of}
 
 -- what holds for each of the three levels
 pub by_level : (P : ℕ → Type 0) → P 1 → P 2 → P 3 → (level : ℕ) → 1 ≤ level → level ≤ 3 → P level
@@ -45,21 +46,10 @@ replied_to on a = record { state = a.state; reply = reply_of on a.reply }
 -- ---- maps
 
 -- what a mapper did, of the words alone
-map_seen : {Lent : Type 0} (h after : Hierarchy Lent) (supply : List ℕ) (call : Call) (answer : Answer) (rest : List ℕ)
-    → DoesMap h supply call answer after rest → DoesMap (of h.layout h.memory) supply call answer (of after.layout after.memory) rest
-map_seen h after supply call answer rest does = record {
-  outcome = does.outcome;
-  fits = does.fits;
-  others = does.others;
-  walks = does.walks;
-  layout = does.layout;
-  lent = refl;
-}
-
 pub map_did : {Lent : Type 0} (h after : Hierarchy Lent) (l : Layout) (m n : Memory) → h.layout ≡ l → h.memory ≡ m → after.memory ≡ n
     → (supply : List ℕ) (call : Call) (answer : Answer) (rest : List ℕ) → DoesMap h supply call answer after rest → DoesMap (of l m) supply call answer (of l n) rest
 map_did h after l m n layout memory left supply call answer rest does =
-    in_memory h after l m n layout memory left does.layout (λ before after. DoesMap before supply call answer after rest) (map_seen h after supply call answer rest does)
+    in_words h after l m n layout memory left does.keeps.layout (λ before last. DoesMap before supply call answer last rest) (maps_alone does)
 
 -- whether a call is allowed, of the words alone
 pub seen_allows : (k l : Layout) (n m : Memory) → k ≡ l → n ≡ m → (call : Call) → allows (of k n) call ≡ allows (of l m) call
@@ -140,7 +130,7 @@ module _ (page frame given more : ℕ) where
 
 pub clean_up_did : {Lent : Type 0} (h after : Hierarchy Lent) (l : Layout) (m n : Memory) → h.layout ≡ l → h.memory ≡ m → after.memory ≡ n
     → (take_back : List ℕ → ℕ → List ℕ) (held : List ℕ) (low high : ℕ) (left : List ℕ) → CleansUp h take_back held low high after left → CleansUp (of l m) take_back held low high (of l n) left
-clean_up_did h after l m n layout memory gone = in_words h l m layout memory after n gone
+clean_up_did h after l m n layout memory gone = cleaned_in_words h l m layout memory after n gone
 
 -- a clean up of a pool whose free frames are those that it holds
 pub cleaned : (l : Layout) (store rest : Store) → rest.serves ≡ store.serves → (m n : Memory) (low high : ℕ) (held left : List ℕ) → store.frames ≡ held → rest.frames ≡ left → IsParentFlags l.added_flags → TakesBack store.take_back

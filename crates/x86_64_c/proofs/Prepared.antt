@@ -44,7 +44,7 @@ module _ (l : Layout) (store : Store) (m : Memory) (level page more : ℕ) (fits
         → KeepsPool l store.serves m store.frames n rest.frames × (rest.serves ≡ store.serves)
     keeps_by None prepares =
         let made = prepares.done refl in
-        (record { fits = made.fits store.serves fits; conserved = made.conserved; others = λ k none. made.others k (λ f own. none f own.0) }, made.serves)
+        (record { fits = made.fits store.serves fits; conserved = made.conserved; others = λ k none. made.keeps.others k (λ f own. none f own.0) }, made.serves)
     keeps_by (Some why) prepares =
         let same = prepares.refused refl in (
           subst (λ n. KeepsPool l store.serves m store.frames n rest.frames) (sym (ap (λ (h : Hierarchy (Unit {0})). h.memory) same.0))

@@ -5,6 +5,7 @@ use Rattle.x86_64_model.specs.Call.{Call, IsPageLevel, Reply, NotAllowed, Answer
 use Rattle.x86_64_model.specs.Entry.{IsParentFlags}
 use Rattle.x86_64_model.specs.Layout.{Layout}
 use Rattle.x86_64_model.specs.Machine.{Machine, State, step, replies_of}
+use Rattle.x86_64_model.proofs.Lemmas.Machines.WordsAlone.{in_words, keeps_alone, maps_alone}
 use Rattle.x86_64_model.specs.Hierarchy.{Hierarchy, PoolFits, machine_of, state_in}
 use Rattle.x86_64_model.specs.Memory.{Memory, Places}
 use Rattle.x86_64_model.specs.Path.{path_at}
@@ -20,7 +21,7 @@ use Rattle.x86_64_mappers.specs.Ranges.{DoesMaps, IsNextMap, MapRange, MapsByRes
 use Rattle.x86_64_mappers.specs.declared.walk.map_range.MapRangeErrorIn.{MapRangeErrorIn}
 use Rattle.x86_64_tables.specs.FlushRecorder.{FlushRange, flush_range}
 use Rattle.x86_64_tables.specs.MapperAnswers.{map_refusal}
-use Rattle.x86_64_c.proofs.EntryChanges.{in_memory, is_page_level, of}
+use Rattle.x86_64_c.proofs.EntryChanges.{is_page_level, of}
 use Rattle.x86_64_c.proofs.RangeArguments.{page_before}
 use Rattle.x86_64_c.proofs.RangeKeeps.{keeps_calls, are_calls}
 use Rattle.x86_64_c.specs.Calls.{result_status}
@@ -64,25 +65,15 @@ module _ (L level : ℕ) (low : 1 ≤ level) (high : level ≤ 3) (some : 3 < L)
 
 -- ---- changes
 
-seen_changes : {Lent : Type 0} (h after : Hierarchy Lent) (calls : List Call) (replies : List Reply) → DoesChanges h calls replies after → DoesChanges (of h.layout h.memory) calls replies (of after.layout after.memory)
-seen_changes h after calls replies does = record {
-  replies = does.replies;
-  state = does.state;
-  valid = does.valid;
-  fits = does.fits;
-  others = does.others;
-  layout = does.layout;
-  lent = refl;
-}
-
 pub changes_each : {Lent : Type 0} (h after : Hierarchy Lent) (l : Layout) (m n : Memory) → h.layout ≡ l → h.memory ≡ m → after.memory ≡ n → IsParentFlags l.added_flags
     → (calls : List Call) (replies : List Reply) → AllCalls l.levels calls → DoesChanges h calls replies after → ChangesRange (of l m) calls replies (of l n)
 changes_each h after l m n layout memory left adds calls replies are does =
-    let did = in_memory h after l m n layout memory left does.layout (λ before after. DoesChanges before calls replies after) (seen_changes h after calls replies does) in
+    let did = in_words h after l m n layout memory left does.keeps.layout (λ before last. DoesChanges before calls replies last)
+    (record { replies = does.replies; state = does.state; fits = does.fits; keeps = keeps_alone does.keeps }) in
     record {
       does = did;
       keeps = λ serves pool fits. keeps_calls l adds serves m pool fits calls are n pool (did.state pool put_first) (did.fits pool (ready_of_fits l m serves pool fits))
-          (λ k none. did.others k (λ f table. none f (inr table)));
+          (λ k none. did.keeps.others k (λ f table. none f (inr table)));
     }
 
 -- ---- how many were done
@@ -114,14 +105,7 @@ next_seen : {Lent : Type 0} (h : Hierarchy Lent) (supply : List ℕ) (call : Cal
 next_seen h supply call before answers after rest next = record {
   answer = next.answer;
   may = record { fits = next.may.fits; allowed = next.may.allowed };
-  does = record {
-    outcome = next.does.outcome;
-    fits = next.does.fits;
-    others = next.does.others;
-    walks = next.does.walks;
-    layout = next.does.layout;
-    lent = refl;
-  };
+  does = maps_alone next.does;
   last = next.last;
 }
 
@@ -143,22 +127,20 @@ seen_maps h supply r count answers after rest does = record {
   replies = does.replies;
   state = does.state;
   fits = does.fits;
-  others = does.others;
   walks = does.walks;
-  layout = does.layout;
-  lent = refl;
+  keeps = keeps_alone does.keeps;
 }
 
 module _ {Lent : Type 0} (h after : Hierarchy Lent) (l : Layout) (m n : Memory) (layout : h.layout ≡ l) (memory : h.memory ≡ m) (left : after.memory ≡ n) (supply : List ℕ) (r : MapRange) (rest : List ℕ) where
   pub maps_did : (count : ℕ) (answers : List Reply) → DoesMaps h supply r count answers after rest → DoesMaps (of l m) supply r count answers (of l n) rest
   maps_did count answers does =
-      in_memory h after l m n layout memory left does.layout (λ before after. DoesMaps before supply r count answers after rest) (seen_maps h supply r count answers after rest does)
+      in_words h after l m n layout memory left does.keeps.layout (λ before last. DoesMaps before supply r count answers last rest) (seen_maps h supply r count answers after rest does)
 
 -- a pool that fitted before maps fits after them
 pub maps_keep : (l : Layout) (m n : Memory) (serves : ℕ → Bool) (pool : List ℕ) (r : MapRange) (count : ℕ) (answers : List Reply) (rest : List ℕ) → IsParentFlags l.added_flags → AllCalls l.levels (maps r count)
     → PoolFits (of l m) serves pool → DoesMaps (of l m) pool r count answers (of l n) rest → KeepsPool l serves m pool n rest
 maps_keep l m n serves pool r count answers rest adds are fits does =
-    keeps_calls l adds serves m pool fits (maps r count) are n rest (does.state put_first) does.fits (λ k none. does.others k (λ f own. none f own.0))
+    keeps_calls l adds serves m pool fits (maps r count) are n rest (does.state put_first) does.fits (λ k none. does.keeps.others k (λ f own. none f own.0))
 
 -- what a map of a range returned, and what was told of it
 pub mapped : {Lent S V : Type 0} (h after : Hierarchy Lent) (l : Layout) (m n : Memory) → h.layout ≡ l → h.memory ≡ m → after.memory ≡ n → IsParentFlags l.added_flags

@@ -1,8 +1,8 @@
 -- Steps of the loops that list the tables by level.
-use Rattle.std.proofs.Common.{◌≡◌, ℕ, zero, suc, ◌+◌, ◌-◌, ◌<◌, ◌≤◌, List, [], ◌∷◌, ◌++◌, length, take, get_or, reverse, flat_map, filter_map, Option, refl, sym, ap, ap₂, ◌∙◌, arith, append_assoc, append-nil}
+use Rattle.std.proofs.Common.{◌≡◌, ℕ, zero, suc, ◌+◌, ◌-◌, ◌<◌, ◌≤◌, List, [], ◌∷◌, ◌++◌, length, take, get_or, reverse, flat_map, filter_map, Option, refl, sym, ap, ap₂, ◌∙◌, arith, append_assoc}
 use Rattle.std.specs.Prelude.{Vec}
 use Rattle.std.specs.List.{cons_option, fold}
-use Rattle.std.proofs.lemmas.Grind.{flat_map-append, reverse_onto}
+use Rattle.std.proofs.lemmas.Grind.{reverse_onto}
 use Rattle.std.proofs.lemmas.List.{map-append, take_more}
 use Rattle.std.proofs.lemmas.List.Elements.{filter_map-append}
 use Rattle.std.proofs.lemmas.List.Sums.{fold-append}
@@ -18,15 +18,6 @@ named_more W before now words i d within is o named =
     ∙ sym (fold-append met before (filter_map (table_named W) (take i words)) (filter_map (table_named W) (get_or words i d ∷ [])))
     ∙ ap (fold met before) (sym (filter_map-append (table_named W) (take i words) (get_or words i d ∷ [])))
     ∙ ap (λ ws. fold met before (filter_map (table_named W) ws)) (sym (take_more words i d within))
-
--- one more frame of a level
-pub below_more : (W : Words) (now frames : List ℕ) (i d : ℕ) → i < length frames → now ≡ fold met [] (flat_map (tables_named W) (take i frames))
-    → fold met now (tables_named W (get_or frames i d)) ≡ fold met [] (flat_map (tables_named W) (take (i + 1) frames))
-below_more W now frames i d within is =
-    ap₂ (fold met) is (sym (append-nil (tables_named W (get_or frames i d))))
-    ∙ sym (fold-append met [] (flat_map (tables_named W) (take i frames)) (flat_map (tables_named W) (get_or frames i d ∷ [])))
-    ∙ ap (fold met []) (sym (flat_map-append (tables_named W) (take i frames) (get_or frames i d ∷ [])))
-    ∙ ap (λ fs. fold met [] (flat_map (tables_named W) fs)) (sym (take_more frames i d within))
 
 -- one more level
 pub level_more : {A : Type 0} (W : Words) (frames more : List (Vec ℕ A)) (level below : Vec ℕ A) (listed : List ℕ) (n k : ℕ) (all : List (List ℕ)) → k < n → more ≡ frames ++ level ∷ []

@@ -1,5 +1,5 @@
 -- Merging of stretches: the state between two steps.
-use Rattle.std.proofs.Common.{◌≡◌, ℕ, ◌≤◌, ◌<◌, ◌==◌, Bool, true, false, cond, List, [], ◌∷◌, ◌++◌, Option, None, Some, length, refl, ap, ap₂, sym, subst, ◌∙◌, arith, eqb-true, eq-eqb, nat_le, le-leb, ⊎_elim}
+use Rattle.std.proofs.Common.{◌≡◌, ℕ, ◌≤◌, ◌<◌, ◌==◌, Bool, true, false, cond, List, [], ◌∷◌, ◌++◌, Option, None, Some, refl, ap, ap₂, sym, subst, ◌∙◌, arith, eqb-true, nat_le, le-leb, ⊎_elim}
 use Rattle.std.specs.List.{fold}
 use Rattle.std.specs.Option.{option_or, unwrap_or}
 use Rattle.std.proofs.lemmas.Option.{none-some}
@@ -108,6 +108,3 @@ merged_more front back merged more F B F' B' p q p' q' place r a next F'is B'is 
 
     risen : r ≤ a
     risen = lower_risen r a F B next state.front_left state.back_left
-
-shorter : (a : ℕ) (s : Stretch) (l : List Stretch) → s.from ≡ a → length (rest_after a (s ∷ l)) < length (s ∷ l)
-shorter a s l is = let P : Bool → Type 0 = λ b. length (cond b l (s ∷ l)) < length (s ∷ l) in subst P (sym (eq-eqb s.from a is)) (omega arith)

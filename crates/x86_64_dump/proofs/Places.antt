@@ -47,16 +47,6 @@ number_more numbers old frames i g within at aligned below so_far f is =
     ∙ ap (λ h. has_number old f || (is_among (take i frames) f || (f == h))) at
     ∙ ap (λ b. has_number old f || b) (sym (list_any_more (λ h. f == h) frames i g within))
 
--- one more level
-pub numbers_more : {A : Type 0} (numbers new : List ℕ) (levels : List (Vec ℕ A)) (i : ℕ) (level : Vec ℕ A) → i < length levels → level ≡ get_or levels i level
-    → ((f : ℕ) → is_frame f ≡ true → has_number new f ≡ (has_number numbers f || is_among level.items f))
-    → ((f : ℕ) → is_frame f ≡ true → has_number numbers f ≡ list_any (λ level. is_among level.items f) (take i levels))
-    → (f : ℕ) → is_frame f ≡ true → has_number new f ≡ list_any (λ level. is_among level.items f) (take (i + 1) levels)
-numbers_more numbers new levels i level within at added so_far f is =
-    added f is
-    ∙ ap₂ (λ a level. a || is_among level.items f) (so_far f is) at
-    ∙ sym (list_any_more (λ level. is_among level.items f) levels i level within)
-
 -- all levels
 pub all_numbers : {A : Type 0} (levels : List (Vec ℕ A)) (f : ℕ) → list_any (λ level. is_among level.items f) levels ≡ is_in_levels (frames_of levels) f
 all_numbers [] f = refl

@@ -7,9 +7,9 @@ use Rattle.std.specs.Prelude.{ℕ, Bool, true, false, List, [], ◌∷◌, ◌++
 use Rattle.std.specs.List.{find, starts_with}
 use Rattle.x86_64_dump.specs.Formats.Elf.{elf_segments, header_of}
 use Rattle.x86_64_dump.specs.Formats.Lime.{lime_segments}
-use Rattle.x86_64_dump.specs.Placement.{raw_segments}
+use Rattle.x86_64_dump.specs.Placement.{raw_segments, refuse_stated}
+use Rattle.x86_64_dump.specs.Steps.{and_then}
 use Rattle.x86_64_dump.specs.declared.placement.Placement.{Placement}
-use Rattle.x86_64_dump.specs.declared.placement.Placement.TheVariants.{Unstated}
 use Rattle.x86_64_dump.specs.declared.segment.Segment.{Segment}
 use Rattle.x86_64_dump.specs.declared.error.Fault.{Fault}
 use Rattle.x86_64_dump.specs.declared.error.Fault.TheVariants as faults
@@ -88,7 +88,6 @@ format_name (formats.Unread format) = codes "none that is read"
 -- The segments of a file of a format, or why it isn't a dump. Only a raw file may have a placement.
 abbrev pub segments_of : Format → (file : List ℕ) → Placement → Result (List Segment) Fault
 segments_of formats.Raw file placement = raw_segments (length file) placement
-segments_of formats.Elf file Unstated = elf_segments file (header_of file)
-segments_of formats.Lime file Unstated = lime_segments file
+segments_of formats.Elf file placement = and_then (refuse_stated placement) (λ _. elf_segments file (header_of file))
+segments_of formats.Lime file placement = and_then (refuse_stated placement) (λ _. lime_segments file)
 segments_of (formats.Unread format) file placement = Err (faults.Unread format)
-segments_of format file placement = Err faults.PlacementGiven

@@ -40,6 +40,11 @@ raw_segments file_length Unstated = Ok (whole_file file_length 0)
 raw_segments file_length (Base base) = Ok (whole_file file_length base)
 raw_segments file_length (Ranges ranges) = unless_fault (first_fault file_length ranges.items) (Ok (map range_segment ranges.items))
 
+-- A fault if the placement is stated, for a file whose own headers say where memory lies.
+abbrev pub refuse_stated : Placement → Result Unit Fault
+refuse_stated Unstated = Ok tt
+refuse_stated placement = Err faults.PlacementGiven
+
 -- The placement by the physical address of the first byte, which may be missing.
 abbrev pub placed_by : (base : Option ℕ) → Placement
 placed_by None = Unstated

@@ -11,7 +11,7 @@ mod lime;
 use crate::error::{DumpError, Fault};
 use crate::formats::elf::read_elf;
 use crate::formats::lime::read_lime;
-use crate::placement::{Placement, raw_segments};
+use crate::placement::{Placement, raw_segments, refuse_stated};
 use crate::segment::Segment;
 use crate::source::ByteSource;
 use std::alloc::Global;
@@ -203,12 +203,17 @@ pub fn read_segments<S: ByteSource>(
     ensures { S.IsKnown →
         OpensAs S.may_fail (λ v. v.items) result (segments_of format (S.bytes source.now) placement.now) }
 {
-    match (format, placement) {
-        (Format::Raw, _) => raw_segments(alloc, source.len(), placement),
-        (Format::Elf, Placement::Unstated) => read_elf(alloc, source),
-        (Format::Lime, Placement::Unstated) => read_lime(alloc, source),
-        (Format::Unread(format), _) => Err(DumpError::Fault(Fault::Unread(format))),
-        (_, _) => Err(DumpError::Fault(Fault::PlacementGiven)),
+    match format {
+        Format::Raw => raw_segments(alloc, source.len(), placement),
+        Format::Elf => {
+            refuse_stated(placement)?;
+            read_elf(alloc, source)
+        }
+        Format::Lime => {
+            refuse_stated(placement)?;
+            read_lime(alloc, source)
+        }
+        Format::Unread(format) => Err(DumpError::Fault(Fault::Unread(format))),
     }
 }
 

@@ -1,7 +1,7 @@
 //! Where the bytes of raw files lie in physical memory.
 ghost use Rattle.std.specs.Prelude.{◌≡◌, false, Ok, IfOk, map};
-ghost use Rattle.x86_64_dump.specs.Placement.{first_fault, range_fault, range_segment, raw_segments, whole_file};
-ghost use Rattle.x86_64_dump.specs.Opening.{OpensAs};
+ghost use Rattle.x86_64_dump.specs.Placement.{first_fault, range_fault, range_segment, raw_segments, refuse_stated, whole_file};
+ghost use Rattle.x86_64_dump.specs.Opening.{OpensAs, GivesAtOnce};
 
 use crate::error::{DumpError, Fault};
 use crate::segment::Segment;
@@ -68,6 +68,16 @@ impl RawRange {
             address: self.address,
             size: self.size,
         }
+    }
+}
+
+/// Refuses a placement that is stated, for a file whose own headers say where memory lies.
+pub fn refuse_stated(placement: &Placement) -> Result<(), DumpError>
+    ensures { GivesAtOnce false (λ done. done) result (refuse_stated placement.now) }
+{
+    match placement {
+        Placement::Unstated => Ok(()),
+        _ => Err(DumpError::Fault(Fault::PlacementGiven)),
     }
 }
 

@@ -1,6 +1,7 @@
 -- Clean ups that a mapper does, stated of the words in the memory that it borrows.
-use Rattle.std.proofs.Common.{◌≡◌, ℕ, Bool, List, refl, sym, subst, subst₂}
+use Rattle.std.proofs.Common.{◌≡◌, ℕ, Bool, List, sym, subst, subst₂}
 use Rattle.x86_64_mappers.specs.CleanUps.{CleansUpInto}
+use Rattle.x86_64_model.proofs.Lemmas.Machines.WordsAlone.{in_words, frees_alone}
 use Rattle.x86_64_model.specs.Hierarchy.{◌laid_in◌, Hierarchy, CleansUp, MayCleanUp}
 use Rattle.x86_64_model.specs.Layout.{Layout}
 use Rattle.x86_64_model.specs.Memory.{Memory}
@@ -18,22 +19,7 @@ module _ {Lent : Type 0} (h : Hierarchy Lent) (l : Layout) (m : Memory) (layout 
     pub clean_up_did : (take_back : List ℕ → ℕ → List ℕ) (held : List ℕ) (low high : ℕ) (left : List ℕ)
         → CleansUp h take_back held low high after left → CleansUp (l laid_in m) take_back held low high (l laid_in n) left
     clean_up_did take_back held low high left cleans =
-        subst (λ l. CleansUp (l laid_in m) take_back held low high (l laid_in n) left) layout
-        (subst (λ m. CleansUp (h.layout laid_in m) take_back held low high (h.layout laid_in n) left) memory
-        (subst (λ n. CleansUp (h.layout laid_in h.memory) take_back held low high (h.layout laid_in n) left) gone
-        (subst (λ k. CleansUp (h.layout laid_in h.memory) take_back held low high (k laid_in after.memory) left) cleans.layout seen)))
-      where
-        seen : CleansUp (h.layout laid_in h.memory) take_back held low high (after.layout laid_in after.memory) left
-        seen = record {
-          outcome = cleans.outcome;
-          returned = cleans.returned;
-          valid = cleans.valid;
-          fits = cleans.fits;
-          empty = cleans.empty;
-          others = cleans.others;
-          layout = cleans.layout;
-          lent = refl;
-        }
+        in_words h after l m n layout memory gone cleans.keeps.layout (λ before last. CleansUp before take_back held low high last left) (frees_alone cleans)
 
     pub cleaned_into : (store rest : Store) (low high : ℕ) → CleansUpInto h store low high after rest → CleansUpInto (l laid_in m) store low high (l laid_in n) rest
     cleaned_into store rest low high cleans = record {

@@ -9,6 +9,7 @@ use Rattle.x86_64_model.specs.Allowed.{refuses}
 use Rattle.x86_64_model.specs.Call.{Call}
 use Rattle.x86_64_model.specs.Layout.{Layout}
 use Rattle.x86_64_model.specs.MapRule.{AfterMap}
+use Rattle.x86_64_model.proofs.Lemmas.Machines.WordsAlone as alone
 use Rattle.x86_64_model.specs.Hierarchy.{◌laid_in◌, Hierarchy, paths}
 use Rattle.x86_64_model.specs.Memory.{Memory}
 use Rattle.x86_64_model.specs.Refusal.{Answer, Done}
@@ -51,23 +52,8 @@ module _ {Lent : Type 0} (h : Hierarchy Lent) (l : Layout) (m : Memory) (layout 
   pub in_words : (after : Hierarchy Lent) (n : Memory) → after.memory ≡ n → (supply rest : Supply) (call : Call) (answer : Answer)
       → MapsFrom h supply call answer after rest → MapsFrom (l laid_in m) supply call answer (l laid_in n) rest
   in_words after n left supply rest call answer maps =
-      subst (λ l. MapsFrom (l laid_in m) supply call answer (l laid_in n) rest) layout
-      (subst (λ m. MapsFrom (h.layout laid_in m) supply call answer (h.layout laid_in n) rest) memory
-      (subst (λ n. MapsFrom (h.layout laid_in h.memory) supply call answer (h.layout laid_in n) rest) left
-      (subst (λ k. MapsFrom (h.layout laid_in h.memory) supply call answer (k laid_in after.memory) rest) maps.map.layout seen)))
-    where
-      seen : MapsFrom (h.layout laid_in h.memory) supply call answer (after.layout laid_in after.memory) rest
-      seen = record {
-        map = record {
-          outcome = maps.map.outcome;
-          fits = maps.map.fits;
-          others = maps.map.others;
-          walks = maps.map.walks;
-          layout = maps.map.layout;
-          lent = refl;
-        };
-        serves = maps.serves;
-      }
+      alone.in_words h after l m n layout memory left maps.map.keeps.layout (λ before last. MapsFrom before supply call answer last rest)
+      (record { map = alone.maps_alone maps.map; serves = maps.serves })
 
   -- a map is done if the look found no reason against it
   pub done_after_look : {S L E X : Type 0} (after : Hierarchy Lent) (n : Memory) → after.memory ≡ n → (supply rest : Supply) (free : ℕ) → length supply.frames ≡ free → (level : ℕ) (map : PageMap S L) (result : Result X (MapToError E))

@@ -1,9 +1,10 @@
 -- Tables that are made after a look: they are refused as the look says, or made.
-use Rattle.std.proofs.Common.{◌≡◌, ℕ, length, Option, Some, None, Result, Ok, Err, OnErr, IsSome, refl, sym, ap, ◌∙◌, subst}
+use Rattle.std.proofs.Common.{◌≡◌, ℕ, length, Option, None, Result, Ok, Err, OnErr, IsSome, sym, ap, ◌∙◌, subst}
 use Rattle.x86_64_live.specs.Prepares.{Prepares, made_or_nothing}
 use Rattle.x86_64_live.specs.WouldAnswer.{WouldRefuse}
 use Rattle.x86_64_mappers.specs.Supplies.{Supply}
 use Rattle.x86_64_mappers.specs.TablesAbove.{AfterTables, CreatesAbove, tables_refusal, tables_rule}
+use Rattle.x86_64_model.proofs.Lemmas.Machines.WordsAlone.{in_words, keeps_alone}
 use Rattle.x86_64_model.specs.Hierarchy.{◌laid_in◌, Hierarchy, paths, path_of}
 use Rattle.x86_64_model.specs.Layout.{Layout}
 use Rattle.x86_64_model.specs.Memory.{Memory}
@@ -40,25 +41,16 @@ module _ {Lent : Type 0} (h : Hierarchy Lent) (l : Layout) (m : Memory) (layout 
   made_in_words : (after : Hierarchy Lent) (n : Memory) → after.memory ≡ n → (supply rest : Supply) (level page more : ℕ) (refusal : Option Refusal)
       → CreatesAbove h supply level page more refusal after rest → CreatesAbove (l laid_in m) supply level page more refusal (l laid_in n) rest
   made_in_words after n left supply rest level page more refusal creates =
-      subst (λ l. CreatesAbove (l laid_in m) supply level page more refusal (l laid_in n) rest) layout
-      (subst (λ m. CreatesAbove (h.layout laid_in m) supply level page more refusal (h.layout laid_in n) rest) memory
-      (subst (λ n. CreatesAbove (h.layout laid_in h.memory) supply level page more refusal (h.layout laid_in n) rest) left
-      (subst (λ k. CreatesAbove (h.layout laid_in h.memory) supply level page more refusal (k laid_in after.memory) rest) creates.layout seen)))
-    where
-      seen : CreatesAbove (h.layout laid_in h.memory) supply level page more refusal (after.layout laid_in after.memory) rest
-      seen = record {
+      in_words h after l m n layout memory left creates.keeps.layout (λ before last. CreatesAbove before supply level page more refusal last rest) (record {
         outcome = creates.outcome;
         made = creates.made;
         entries = creates.entries;
-        valid = creates.valid;
         fits = creates.fits;
         conserved = creates.conserved;
-        others = creates.others;
         walks = creates.walks;
-        layout = creates.layout;
-        lent = refl;
+        keeps = keeps_alone creates.keeps;
         serves = creates.serves;
-      }
+      })
 
   -- tables are made if the look found no reason against it
   pub made_after_look : {E X : Type 0} (after : Hierarchy Lent) (n : Memory) → after.memory ≡ n → (supply rest : Supply) (free : ℕ) → length supply.frames ≡ free → (level page more : ℕ) (result : Result X (MapToError E))

@@ -108,8 +108,8 @@ kept_one {S = S} h after supply rest level page frame given low high some adds m
   serves = does.serves;
   free = (served (λ f. true) may.fits).free;
   walks = λ p w is. let v = does.map.walks (parent_part given) refl p w is in (v.0, v.1, v.2.no_worse);
-  layout = does.map.layout;
-  lent = does.map.lent;
+  layout = does.map.keeps.layout;
+  lent = does.map.keeps.lent;
 }
   where
     start : (serves : ℕ → Bool) → PoolFits h serves supply.frames → Start h.layout put_first serves h.memory supply.frames level

@@ -3,13 +3,13 @@ use Rattle.std.specs.Prelude.{◌≡◌, ◌<◌, ◌⊎◌, ◌-◌, ◌&&◌, 
 use Rattle.std.specs.FinMap.{retain_keys}
 use Rattle.x86_64_model.specs.CleanUp.{AfterCleanUp, is_removed}
 use Rattle.x86_64_model.specs.Entry.{address}
-use Rattle.x86_64_model.specs.Hierarchy.{◌laid_in◌, Hierarchy, KeepsOthers, SupplyFits, Valid, paths, walk, words}
+use Rattle.x86_64_model.specs.Hierarchy.{◌laid_in◌, FreesTables, Hierarchy, HoldsTable, paths, walk}
 use Rattle.x86_64_model.specs.Layout.{Layout}
 use Rattle.x86_64_model.specs.Lists.{In}
-use Rattle.x86_64_model.specs.Memory.{IsMapping, Memory, word}
+use Rattle.x86_64_model.specs.Memory.{IsMapping, Memory}
 use Rattle.x86_64_model.specs.Path.{paths_below}
 use Rattle.x86_64_model.specs.PathMap.{PathMap, entry}
-use Rattle.x86_64_model.specs.Pool.{IsTable, TakesBack, with_returned}
+use Rattle.x86_64_model.specs.Pool.{IsTable, TakesBack}
 use Rattle.x86_64_model.specs.Position.{page_path}
 use Rattle.x86_64_model.specs.Spaces.{AreSpaces}
 use Rattle.x86_64_model.specs.Store.{Store}
@@ -32,25 +32,15 @@ clean_up_below_root L paths low high = record {
 abbrev pub freed_below_root : {Lent : Type 0} → Hierarchy Lent → (low high : ℕ) → List ℕ
 freed_below_root h low high = (clean_up_below_root h.layout.levels (paths h) low high).back
 
--- The effect of a clean up below the root's entries, of the positions from low to high, that returns frames to the store. The store is
--- `rest` then, and serves the same frames. The hierarchy is valid again, the root's entries stay, and so does the result of each page
--- walk outside the recursive window. Each table is a table still or was freed. A supply that fitted still fits with the freed frames
--- added. The freed frames have only words 0, and only words in tables change.
+-- The effect of a clean up below the root's entries, of the positions from low to high, that returns frames to the store: that of its
+-- rule. The store is `rest` then, and serves the same frames. The root's entries stay, and so does the result of each page walk outside
+-- the recursive window. Each table is a table still or was freed.
 pub record CleansUpBelowRoot {Lent : Type 0} (h : Hierarchy Lent) (store : Store) (low high : ℕ) (after : Hierarchy Lent) (rest : Store) : Type 0 where
-  pub outcome : paths after ≡ (clean_up_below_root h.layout.levels (paths h) low high).paths
-  pub returned : rest.frames ≡ with_returned store.take_back store.frames (freed_below_root h low high)
+  pub cleans : FreesTables h store.take_back store.frames (clean_up_below_root h.layout.levels (paths h) low high) after rest.frames
   pub serves : rest.serves ≡ store.serves
-  pub valid : Valid after
   pub root_entries : (i : ℕ) → entry (paths after) (i ∷ []) ≡ entry (paths h) (i ∷ [])
   pub walks : (p : ℕ) → begins_with h.layout.window (page_path h.layout.levels p) ≡ false → walk after p ≡ walk h p
-  pub conserved : (f : ℕ) → IsTable h.layout.levels h.layout.root (paths h) f
-      → IsTable h.layout.levels h.layout.root (paths after) f ⊎ In (freed_below_root h low high) f
-  pub fits : (take_back : List ℕ → ℕ → List ℕ) → TakesBack take_back → (supply : List ℕ) → SupplyFits h supply
-      → SupplyFits after (with_returned take_back supply (freed_below_root h low high))
-  pub empty : (f : ℕ) → In (freed_below_root h low high) f → (i : ℕ) → word (words after) f i ≡ 0
-  pub others : KeepsOthers (IsTable h.layout.levels h.layout.root (paths h)) h after
-  pub layout : after.layout ≡ h.layout
-  pub lent : after.lent ≡ h.lent
+  pub conserved : (f : ℕ) → HoldsTable h f → IsTable h.layout.levels h.layout.root (paths after) f ⊎ In (freed_below_root h low high) f
 
 -- After a call on one of many address spaces led from the memory m to the memory n, all are address spaces again, with the rest of the
 -- pool. Each page walk of each of them has the result that it had, outside its recursive window and that of the one that was called.

@@ -4,8 +4,7 @@ use Rattle.std.specs.Prelude.{◌≡◌, ◌<◌, ◌+◌, ◌*◌, ℕ, false, 
 use Rattle.std.specs.List.{range_with_len}
 use Rattle.x86_64_model.specs.Call.{Call, Unmap, UpdateFlags, Reply, NotAllowed, Answered, Position, Address, Cleaned}
 use Rattle.x86_64_model.specs.Machine.{replies_of, state_after}
-use Rattle.x86_64_model.specs.Hierarchy.{Hierarchy, Valid, SupplyFits, KeepsOthers, machine_of, state_of, path_of, paths}
-use Rattle.x86_64_model.specs.Pool.{IsTable}
+use Rattle.x86_64_model.specs.Hierarchy.{Hierarchy, HoldsTable, KeepsBut, SupplyFits, machine_of, state_of, path_of}
 use Rattle.x86_64_model.specs.Position.{span, position_count}
 use Rattle.x86_64_model.specs.Refusal.{Done, Refused}
 use Rattle.x86_64_model.specs.Window.{begins_with}
@@ -40,11 +39,8 @@ frames_done (Cleaned ∷ rs) = frames_done rs
 pub record DoesChanges {Lent : Type 0} (h : Hierarchy Lent) (calls : List Call) (answers : List Reply) (after : Hierarchy Lent) : Type 0 where
   pub replies : (pool : List ℕ) (take_back : List ℕ → ℕ → List ℕ) → replies_of (machine_of h.layout take_back) (state_of h pool) calls ≡ answers
   pub state : (pool : List ℕ) (take_back : List ℕ → ℕ → List ℕ) → state_after (machine_of h.layout take_back) (state_of h pool) calls ≡ state_of after pool
-  pub valid : Valid after
   pub fits : (supply : List ℕ) → SupplyFits h supply → SupplyFits after supply
-  pub others : KeepsOthers (IsTable h.layout.levels h.layout.root (paths h)) h after
-  pub layout : after.layout ≡ h.layout
-  pub lent : after.lent ≡ h.lent
+  pub keeps : KeepsBut (HoldsTable h) h after
 
 -- The first pages of a level, from a page on, were unmapped one after another, with these replies.
 abbrev pub UnmapsEach : {Lent : Type 0} → Hierarchy Lent → (level page count : ℕ) → (replies : List Reply) → (after : Hierarchy Lent) → Type 0

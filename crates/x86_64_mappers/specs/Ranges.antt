@@ -3,9 +3,8 @@ use Rattle.std.specs.Prelude.{zero, suc, ◌≡◌, ◌+◌, ◌*◌, ◌^◌, �
 use Rattle.std.specs.List.{range_with_len}
 use Rattle.x86_64_model.specs.Arrivals.{Arrives}
 use Rattle.x86_64_model.specs.Call.{Call, MapToWithTableFlags, Reply, Answered}
-use Rattle.x86_64_model.specs.Lists.{In}
 use Rattle.x86_64_model.specs.Machine.{replies_of, state_after}
-use Rattle.x86_64_model.specs.Hierarchy.{Hierarchy, SupplyFits, MayMap, DoesMap, Owns, KeepsOthers, allows_map, machine_of, state_of, path_of, walk}
+use Rattle.x86_64_model.specs.Hierarchy.{Hierarchy, SupplyFits, MayMap, DoesMap, KeepsBut, Uses, allows_map, machine_of, state_of, path_of, walk}
 use Rattle.x86_64_model.specs.Position.{span, position_count}
 use Rattle.x86_64_model.specs.Refusal.{Refusal, Answer, Done, Refused}
 use Rattle.x86_64_tables.specs.MapperAnswers.{map_refusal}
@@ -73,10 +72,8 @@ pub record DoesMaps {Lent : Type 0} (h : Hierarchy Lent) (supply : List ℕ) (r 
   pub replies : (take_back : List ℕ → ℕ → List ℕ) → replies_of (machine_of h.layout take_back) (state_of h supply) (maps r count) ≡ answers
   pub state : (take_back : List ℕ → ℕ → List ℕ) → state_after (machine_of h.layout take_back) (state_of h supply) (maps r count) ≡ state_of after rest
   pub fits : SupplyFits after rest
-  pub others : KeepsOthers (λ f. Owns h supply f × (In rest f → ⊥)) h after
   pub walks : (p : ℕ) → Arrives r.parent_flags (walk h p) (walk after p)
-  pub layout : after.layout ≡ h.layout
-  pub lent : after.lent ≡ h.lent
+  pub keeps : KeepsBut (Uses h supply rest) h after
 
 -- All of the first `count` pages of a range were mapped one after another, and each map did what a single one does. The rest of the
 -- supply is left.

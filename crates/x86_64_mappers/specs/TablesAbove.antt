@@ -3,7 +3,7 @@ use Rattle.std.specs.Prelude.{◌≡◌, ◌↔◌, ℕ, Bool, List, [], Option,
 use Rattle.std.specs.List.{AllByRecursion}
 use Rattle.x86_64_mappers.specs.Supplies.{Supply}
 use Rattle.x86_64_model.specs.Arrivals.{Arrives}
-use Rattle.x86_64_model.specs.Hierarchy.{Hierarchy, KeepsOthers, Owns, PoolFits, Valid, paths, path_of, walk}
+use Rattle.x86_64_model.specs.Hierarchy.{Hierarchy, KeepsBut, Owns, PoolFits, Uses, paths, path_of, walk}
 use Rattle.x86_64_model.specs.Lists.{In}
 use Rattle.x86_64_model.specs.MapRule.{AfterMap, map_rule}
 use Rattle.x86_64_model.specs.Path.{parents}
@@ -44,14 +44,11 @@ pub record CreatesTables {Lent : Type 0} (h : Hierarchy Lent) (supply : Supply) 
   pub made : refusal ≡ None → AllByRecursion (λ p. IsParent parent_flags (entry (paths after) p)) (parents page)
   -- All other entries stay, the page's own among them.
   pub entries : (p : List ℕ) → (In (parents page) p → ⊥) → entry (paths after) p ≡ entry (paths h) p
-  pub valid : Valid after
   -- What is left of a pool that fitted fits, whatever it serves, and free and table frames together are the same set as before.
   pub fits : (serves : ℕ → Bool) → PoolFits h serves supply.frames → PoolFits after serves rest.frames
   pub conserved : (f : ℕ) → Owns h supply.frames f ↔ Owns after rest.frames f
-  pub others : KeepsOthers (λ f. Owns h supply.frames f × (In rest.frames f → ⊥)) h after
   pub walks : (p : ℕ) → Arrives parent_flags (walk h p) (walk after p)
-  pub layout : after.layout ≡ h.layout
-  pub lent : after.lent ≡ h.lent
+  pub keeps : KeepsBut (Uses h supply.frames rest.frames) h after
   pub serves : rest.serves ≡ supply.serves
 
 -- The tables above the page of a level were made.

@@ -1,5 +1,5 @@
 -- The remaining entries of a table: where they come from, the entries after some of them, and the table below the first.
-use Rattle.std.proofs.Common.{zero, suc, ◌≡◌, ◌<◌, ◌≤◌, ◌+◌, ◌-◌, ◌*◌, ◌/◌, ◌%◌, ℕ, true, false, cond, List, [], length, get_or, drop, Some, None, option_map, sym, ap, ◌∙◌, subst, arith, ⊎_elim}
+use Rattle.std.proofs.Common.{zero, suc, ◌≡◌, ◌<◌, ◌≤◌, ◌+◌, ◌-◌, ◌*◌, ◌/◌, ◌%◌, ℕ, true, false, cond, List, length, get_or, drop, Some, None, option_map, sym, ap, ◌∙◌, subst, arith, ⊎_elim}
 use Rattle.std.proofs.lemmas.Bool.{cases_lt}
 use Rattle.std.proofs.lemmas.List.{get_or-drop, length-drop}
 use Rattle.std.proofs.lemmas.Nat.{le-div}
@@ -52,14 +52,6 @@ table_room L (suc n) p low high inside =
     omega (arith, parts, whole, table, at, most)
 
 module _ (L : ℕ) (T : Words) (root : ℕ) where
-  pub on_nothing : (next level : ℕ) (r : Rights) → 1 ≤ level → level ≤ L → next ≤ position_count L → IsOn L T root next level r []
-  on_nothing next level r low high inside = record {
-    low = low;
-    high = high;
-    inside = inside;
-    room = let from = span_from level next in omega (arith, from, inside);
-    reads = λ i x few from at. absurd (omega (arith, few));
-  }
 
   -- the entries of a table from the one that spans the position on
   pub on_table : (next level : ℕ) (r : Rights) (frame : ℕ) (table : List ℕ) → 1 ≤ level → level ≤ L → next < position_count L

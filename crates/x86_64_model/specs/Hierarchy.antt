@@ -1,19 +1,19 @@
 -- The conditions and effects of a mapper's calls, over one record: the hierarchy that the mapper owns for a while.
-use Rattle.std.specs.Prelude.{◌≢◌, ◌≡◌, ◌<◌, ◌+◌, ℕ, Bool, true, List, ◌∷◌, None, Some, Option}
+use Rattle.std.specs.Prelude.{◌≢◌, ◌≡◌, ◌⊎◌, ◌<◌, ◌+◌, ℕ, Bool, true, List, ◌∷◌, None, Some, Option}
 use Rattle.x86_64_model.specs.Allowed.{allowed, map_allowed, map_call_allowed, refuses}
 use Rattle.x86_64_model.specs.Arrivals.{Arrives}
 use Rattle.x86_64_model.specs.Call.{Call, MapTo, MapToWithTableFlags, IdentityMap, Unmap, UpdateFlags, SetFlags, Answered, parent_flags_of}
-use Rattle.x86_64_model.specs.CleanUp.{clean_up}
+use Rattle.x86_64_model.specs.CleanUp.{AfterCleanUp, clean_up}
 use Rattle.x86_64_model.specs.Entry.{writable, user, address}
 use Rattle.x86_64_model.specs.Lists.{In}
 use Rattle.x86_64_model.specs.Machine.{Machine, State, do_call}
 use Rattle.x86_64_model.specs.MapRule.{AfterMap, map_call, parent_part}
-use Rattle.x86_64_model.specs.Memory.{Memory, Words, word, Places, words_of}
+use Rattle.x86_64_model.specs.Memory.{Memory, Words, word, words_of}
 use Rattle.x86_64_model.specs.PageRules.{AfterChange, unmap, update_flags, set_flags, translate_page}
 use Rattle.x86_64_model.specs.PageWalk.{Walked, page_walk}
 use Rattle.x86_64_model.specs.Path.{front_at, path_at}
 use Rattle.x86_64_model.specs.PathMap.{PathMap, table_at}
-use Rattle.x86_64_model.specs.Pool.{IsOwn, IsTable, Fits, TakesBack, with_returned}
+use Rattle.x86_64_model.specs.Pool.{IsTable, Fits, TakesBack, with_returned}
 use Rattle.x86_64_model.specs.Refusal.{Answer}
 use Rattle.x86_64_model.specs.Standing.{IsMappedIn}
 use Rattle.x86_64_model.specs.Translation.{Translated, translate}
@@ -79,17 +79,29 @@ PoolFits h serves pool = Fits h.layout.levels h.layout.window (words h) h.layout
 abbrev pub SupplyFits : {Lent : Type 0} → Hierarchy Lent → (supply : List ℕ) → Type 0
 SupplyFits h supply = PoolFits h (λ f. true) supply
 
+-- The frame holds the root or another table of the hierarchy.
+abbrev pub HoldsTable : {Lent : Type 0} → Hierarchy Lent → (frame : ℕ) → Type 0
+HoldsTable h f = IsTable h.layout.levels h.layout.root (paths h) f
+
 -- The frame holds the root or another table of the hierarchy, or is in the supply.
 abbrev pub Owns : {Lent : Type 0} → Hierarchy Lent → (supply : List ℕ) → (frame : ℕ) → Type 0
-Owns h supply f = IsOwn h.layout.levels h.layout.root (paths h) supply f
+Owns h supply f = In supply f ⊎ HoldsTable h f
 
--- From the memory m to the memory n, every place where none of these frames lies keeps its words.
-abbrev pub KeepsOutside : Places → (frames : ℕ → Type 0) → Memory → Memory → Type 0
-KeepsOutside places frames m n = (k : ℕ) → ((f : ℕ) → frames f → places.place f ≢ k) → get n k ≡ get m k
+-- The frame holds the root or another table of the hierarchy, or was taken from the supply, of which the rest is left.
+abbrev pub Uses : {Lent : Type 0} → Hierarchy Lent → (supply rest : List ℕ) → (frame : ℕ) → Type 0
+Uses h supply rest f = Owns h supply f × (In rest f → ⊥)
 
--- From a hierarchy to the one after it, only words in these frames change.
+-- From a hierarchy to the one after it, only words in these frames change: every place where none of them lies keeps its words.
 abbrev pub KeepsOthers : {Lent : Type 0} → (frames : ℕ → Type 0) → (h after : Hierarchy Lent) → Type 0
-KeepsOthers frames h after = KeepsOutside h.layout.places frames h.memory after.memory
+KeepsOthers frames h after = (k : ℕ) → ((f : ℕ) → frames f → h.layout.places.place f ≢ k) → get after.memory k ≡ get h.memory k
+
+-- What each call keeps that changes words in these frames alone: the hierarchy is valid again, the words elsewhere stay, and so do
+-- its layout and what was lent.
+pub record KeepsBut {Lent : Type 0} (frames : ℕ → Type 0) (h after : Hierarchy Lent) : Type 0 where
+  pub valid : Valid after
+  pub others : KeepsOthers frames h after
+  pub layout : after.layout ≡ h.layout
+  pub lent : after.lent ≡ h.lent
 
 -- ---- what a call asks for
 
@@ -163,12 +175,9 @@ IsStep h pool call answer after rest =
 -- change, and a refused change changes none.
 pub record Changes {Lent : Type 0} (h : Hierarchy Lent) (rule : Option AfterChange) (answer : Answer) (after : Hierarchy Lent) : Type 0 where
   pub outcome : rule ≡ Some (record { paths = paths after; answer = answer })
-  pub valid : Valid after
   pub fits : (supply : List ℕ) → SupplyFits h supply → SupplyFits after supply
-  pub others : KeepsOthers (IsTable h.layout.levels h.layout.root (paths h)) h after
   pub refused : refuses answer ≡ true → after.memory ≡ h.memory
-  pub layout : after.layout ≡ h.layout
-  pub lent : after.lent ≡ h.lent
+  pub keeps : KeepsBut (HoldsTable h) h after
 
 -- The effect of a call that changes one entry: that of its rule.
 abbrev pub Does : {Lent : Type 0} → (h : Hierarchy Lent) → Call → Answer → (after : Hierarchy Lent) → Type 0
@@ -181,10 +190,8 @@ Does h call answer after = Changes h (change_outcome h.layout.levels h.layout.wi
 pub record Maps {Lent : Type 0} (h : Hierarchy Lent) (supply : List ℕ) (rule : Option AfterMap) (parent_flags : Option ℕ) (answer : Answer) (after : Hierarchy Lent) (rest : List ℕ) : Type 0 where
   pub outcome : rule ≡ Some (record { paths = paths after; supply = rest; answer = answer })
   pub fits : SupplyFits after rest
-  pub others : KeepsOthers (λ f. Owns h supply f × (In rest f → ⊥)) h after
   pub walks : (more : ℕ) → parent_flags ≡ Some more → (p : ℕ) → Arrives more (walk h p) (walk after p)
-  pub layout : after.layout ≡ h.layout
-  pub lent : after.lent ≡ h.lent
+  pub keeps : KeepsBut (Uses h supply rest) h after
 
 -- The effect of a call that maps a page, after which the rest of the supply is left: that of the rule of maps.
 abbrev pub DoesMap : {Lent : Type 0} → (h : Hierarchy Lent) → (supply : List ℕ) → Call → Answer → (after : Hierarchy Lent) → (rest : List ℕ) → Type 0
@@ -220,15 +227,16 @@ pub record MayCleanUp {Lent : Type 0} (h : Hierarchy Lent) (serves : ℕ → Boo
   pub serves_tables : (i : ℕ) (q : List ℕ) (f : ℕ) → table_at h.layout.levels h.layout.root (paths h) (i ∷ q) ≡ Some f → serves f ≡ true
   pub none_held : (i : ℕ) (q : List ℕ) (f : ℕ) → table_at h.layout.levels h.layout.root (paths h) (i ∷ q) ≡ Some f → In held f → ⊥
 
--- The effect of a clean up, after which each freed frame is held where `take_back` puts it. Its outcome is that of the rule of
--- clean ups, the hierarchy is valid again, and a supply that fitted still fits with the freed frames added. The freed frames have
--- only words 0, and only words in the root and the tables change.
-pub record CleansUp {Lent : Type 0} (h : Hierarchy Lent) (take_back : List ℕ → ℕ → List ℕ) (held : List ℕ) (low high : ℕ) (after : Hierarchy Lent) (rest : List ℕ) : Type 0 where
-  pub outcome : paths after ≡ (clean_up h.layout.levels (paths h) low high).paths
-  pub returned : rest ≡ with_returned take_back held (freed_frames h low high)
-  pub valid : Valid after
-  pub fits : (take_back : List ℕ → ℕ → List ℕ) → TakesBack take_back → (supply : List ℕ) → SupplyFits h supply → SupplyFits after (with_returned take_back supply (freed_frames h low high))
-  pub empty : (f : ℕ) → In (freed_frames h low high) f → (i : ℕ) → word (words after) f i ≡ 0
-  pub others : KeepsOthers (IsTable h.layout.levels h.layout.root (paths h)) h after
-  pub layout : after.layout ≡ h.layout
-  pub lent : after.lent ≡ h.lent
+-- The effect of a clean up whose outcome by its rule is given, after which each freed frame is held where `take_back` puts it. A
+-- supply that fitted still fits with the freed frames added. The freed frames have only words 0, and only words in the root and the
+-- tables change.
+pub record FreesTables {Lent : Type 0} (h : Hierarchy Lent) (take_back : List ℕ → ℕ → List ℕ) (held : List ℕ) (rule : AfterCleanUp) (after : Hierarchy Lent) (rest : List ℕ) : Type 0 where
+  pub outcome : paths after ≡ rule.paths
+  pub returned : rest ≡ with_returned take_back held rule.back
+  pub fits : (take_back : List ℕ → ℕ → List ℕ) → TakesBack take_back → (supply : List ℕ) → SupplyFits h supply → SupplyFits after (with_returned take_back supply rule.back)
+  pub empty : (f : ℕ) → In rule.back f → (i : ℕ) → word (words after) f i ≡ 0
+  pub keeps : KeepsBut (HoldsTable h) h after
+
+-- The effect of a clean up of the positions from low to high: that of the rule of clean ups.
+abbrev pub CleansUp : {Lent : Type 0} → (h : Hierarchy Lent) → (take_back : List ℕ → ℕ → List ℕ) → (held : List ℕ) → (low high : ℕ) → (after : Hierarchy Lent) → (rest : List ℕ) → Type 0
+CleansUp h take_back held low high after rest = FreesTables h take_back held (clean_up h.layout.levels (paths h) low high) after rest

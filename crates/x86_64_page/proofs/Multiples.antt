@@ -1,5 +1,5 @@
 -- Multiples of a size of pages.
-use Rattle.std.specs.Prelude.{zero, suc, ◌≡◌, ℕ, ◌+◌, ◌-◌, ◌*◌, ◌/◌, ◌%◌, ◌^◌, ◌≤◌, ◌<◌, nat_lt, Bool, true, false, if◌then◌else◌}
+use Rattle.std.specs.Prelude.{zero, suc, ◌≡◌, ℕ, ◌+◌, ◌-◌, ◌*◌, ◌/◌, ◌%◌, ◌^◌, ◌≤◌, nat_lt, Bool, true, false, if◌then◌else◌}
 use Rattle.std.proofs.Common.{inl, inr, refl, subst, arith}
 use Rattle.std.proofs.Math.Nat.{mul-mod_left, div-mul-le_self, mod-eq-sub-div-mul}
 use Rattle.x86_64_addr.specs.Levels.{IsLevelCount}
@@ -35,15 +35,3 @@ remainder_in L p z (suc (suc (suc (suc l)))) count low high e false = absurd (om
 -- an address and its position leave the same remainder by the size of a level
 pub same_remainder : (L position size level : ℕ) → IsLevelCount L → 1 ≤ level → level ≤ 3 → size ≡ span level → raw L position % size ≡ position % size
 same_remainder L p z level count low high e = remainder_in L p z level count low high e (nat_lt p (lower_half L))
-
--- rounded down, the raw value in either half is that of the position rounded down
-rounded : (p size level : ℕ) → 1 ≤ level → level ≤ 3 → size ≡ span level → p < 2 ^ 48 → (lower : Bool)
-    → ((if lower then p else p + (2 ^ 64 - 2 ^ 48)) - (if lower then p else p + (2 ^ 64 - 2 ^ 48)) % size) % 2 ^ 48 ≡ p - p % size
-rounded p z zero low high e small lower = absurd (omega arith)
-rounded p z (suc zero) low high e small true = let e' : z ≡ 0x1000 = e in rw e' (omega arith)
-rounded p z (suc zero) low high e small false = let e' : z ≡ 0x1000 = e in rw e' (omega arith)
-rounded p z (suc (suc zero)) low high e small true = let e' : z ≡ 0x20_0000 = e in rw e' (omega arith)
-rounded p z (suc (suc zero)) low high e small false = let e' : z ≡ 0x20_0000 = e in rw e' (omega arith)
-rounded p z (suc (suc (suc zero))) low high e small true = let e' : z ≡ 0x4000_0000 = e in rw e' (omega arith)
-rounded p z (suc (suc (suc zero))) low high e small false = let e' : z ≡ 0x4000_0000 = e in rw e' (omega arith)
-rounded p z (suc (suc (suc (suc l)))) low high e small lower = absurd (omega arith)

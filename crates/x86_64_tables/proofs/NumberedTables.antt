@@ -1,15 +1,14 @@
 -- The tables of a slice, each at the place with its index.
-use Rattle.std.proofs.Common.{◌≡◌, ◌<◌, ◌≤◌, ◌+◌, ℕ, List, [], length, slice_get, slice_set, Some, None, IsSome, is_some, inl, inr, refl, sym, ap, ◌∙◌, arith}
+use Rattle.std.proofs.Common.{◌≡◌, ◌<◌, ◌≤◌, ◌+◌, ℕ, List, length, slice_get, Some, None, IsSome, is_some, inl, inr, refl, sym, ap, ◌∙◌, arith}
 use Rattle.std.proofs.lemmas.Bool.{cases_lt, false≢true}
-use Rattle.std.proofs.lemmas.List.{length-set}
 use Rattle.std.proofs.lemmas.List.FromFn.{length-range_with_len, get_or-range_with_len}
 use Rattle.std.proofs.lemmas.Option.{slice_get_past, slice_get-get_or}
-use Rattle.std.specs.FinMap.{get, insert, keys, len}
+use Rattle.std.specs.FinMap.{get, keys, len}
 use Rattle.std.specs.List.{position, range_with_len}
 use Rattle.std.specs.Ordering.{nat_cmp, eq_by_cmp}
 use Rattle.x86_64_tables.specs.LentMemory.{numbered, tables_in_order}
-use Rattle.x86_64_tables.specs.PhysMemory.{tables_at, length_keys}
-use Rattle.x86_64_tables.proofs.Places.{range_rises, there, gone, changed}
+use Rattle.x86_64_tables.specs.PhysMemory.{length_keys}
+use Rattle.x86_64_tables.proofs.Places.{range_rises, there, gone}
 use Rattle.x86_64_tables.proofs.PlacesInOrder.{keys-tables, values-tables, position_there, position_gone}
 
 module _ (ts : List (List ℕ)) where
@@ -60,11 +59,3 @@ module _ (ts : List (List ℕ)) where
     | inl near ↦ near
     | inr past ↦ absurd (false≢true (ap is_some (sym (slice_get_past ts q past) ∙ get-numbered q) ∙ has))
   ]
-
-  pub below_there : (q : ℕ) → q < length ts → IsSome (get (numbered ts) q)
-  below_there q near = ap is_some (sym (get-numbered q) ∙ slice_get-get_or ts q [] near)
-
-  pub set-numbered : (q : ℕ) (t : List ℕ) → q < length ts → numbered (slice_set ts q t) ≡ insert (numbered ts) q t
-  set-numbered q t near =
-      ap (λ n. tables_at (range_with_len 0 n) (slice_set ts q t)) (length-set ts q t)
-      ∙ changed numbers ts (numbered ts) same refl q q t (sym (stands q near))

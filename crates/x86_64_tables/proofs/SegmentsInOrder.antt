@@ -1,12 +1,12 @@
 -- Segments in order: a search finds the first that has a frame.
-use Rattle.std.proofs.Common.{◌≡◌, ◌+◌, ◌-◌, ◌%◌, ◌^◌, ◌<◌, ◌≤◌, ◌&&◌, ◌⊎◌, inl, inr, ℕ, zero, suc, Bool, true, false, cond, nat_le, nat_lt, List, [], ◌∷◌, ◌++◌, length, get_or, take, drop, Some, None, refl, sym, ap, ap₂, subst, ◌∙◌, arith}
+use Rattle.std.proofs.Common.{◌≡◌, ◌+◌, ◌-◌, ◌<◌, ◌≤◌, ◌&&◌, ◌⊎◌, inl, inr, ℕ, zero, suc, Bool, true, false, cond, nat_le, nat_lt, List, [], ◌∷◌, ◌++◌, length, get_or, take, drop, Some, None, refl, sym, ap, ap₂, ◌∙◌, arith}
 use Rattle.std.specs.List.{find, list_all}
 use Rattle.std.specs.List.Sorted.{IsNonDecreasingBy}
 use Rattle.std.specs.Option.{option_map}
-use Rattle.std.proofs.lemmas.Bool.{and_parts, leb-true, ltb-true, cases_lt, cases_Bool, le-leb, lt-ltb, le-ltb, and_right, true≢false}
+use Rattle.std.proofs.lemmas.Bool.{and_parts, leb-true, cases_Bool, le-ltb, and_right, true≢false}
 use Rattle.std.proofs.lemmas.List.{take_more, take-append-drop}
 use Rattle.std.proofs.lemmas.List.Folds.{list_all-append, list_all_at}
-use Rattle.x86_64_tables.specs.FrameSegments.{has_number, place_in, segment_place, ends_below_limit, may_precede, have_other_places, are_in_order, front_of}
+use Rattle.x86_64_tables.specs.FrameSegments.{has_number, place_in, segment_place, ends_below_limit, may_precede, have_other_places, are_in_order}
 use Rattle.x86_64_tables.specs.declared.phys_memory.frame_segment.FrameSegment.{FrameSegment}
 
 -- the parts of the order of a first segment and others
@@ -16,11 +16,6 @@ order_parts s l order =
     let outer = and_parts (ends_below_limit s && list_all (may_precede s) l) (are_in_order l) order in
     let inner = and_parts (ends_below_limit s) (list_all (may_precede s) l) outer.0 in
     (inner.0, inner.1, outer.1)
-
-pub ends : (s : FrameSegment) → ends_below_limit s ≡ true → (s.first + s.count < 2 ^ 64) × (s.place + s.count < 2 ^ 64)
-ends s below =
-    let parts = and_parts (nat_lt (s.first + s.count) (2 ^ 64)) (nat_lt (s.place + s.count) (2 ^ 64)) below in
-    (ltb-true (s.first + s.count) (2 ^ 64) parts.0, ltb-true (s.place + s.count) (2 ^ 64) parts.1)
 
 -- a segment ends before each of those that it may precede
 ends_first : (s : FrameSegment) (l : List FrameSegment) (j : ℕ) (d : FrameSegment) → list_all (may_precede s) l ≡ true → j < length l
@@ -110,28 +105,3 @@ order_wrong l i wrong = by (cases_Bool (are_in_order l))
     by : (are_in_order l ≡ true) ⊎ (are_in_order l ≡ false) → are_in_order l ≡ false
     by (inl h) = absurd (true≢false (sym (order_front (take i l) (drop i l) (ap are_in_order (take-append-drop i l) ∙ h)) ∙ wrong))
     by (inr h) = h
-
--- a frame at a distance from the first of a segment is in the segment if the distance, modulo 2^64, is below the count
-near_has : (s : FrameSegment) (x : ℕ) → ends_below_limit s ≡ true → x < 2 ^ 64 → (x + (2 ^ 64 - s.first)) % 2 ^ 64 < s.count
-    → (has_number x s ≡ true) × (s.first + (x + (2 ^ 64 - s.first)) % 2 ^ 64 ≡ x)
-near_has s x below small near = by (cases_lt x s.first)
-  where
-    limits : (s.first + s.count < 2 ^ 64) × (s.place + s.count < 2 ^ 64)
-    limits = ends s below
-
-    by : (x < s.first) ⊎ (s.first ≤ x) → (has_number x s ≡ true) × (s.first + (x + (2 ^ 64 - s.first)) % 2 ^ 64 ≡ x)
-    by (inl less) = let limit = limits.0 in absurd (omega (arith, less, small, near, limit))
-    by (inr more) =
-        let is : s.first + (x + (2 ^ 64 - s.first)) % 2 ^ 64 ≡ x = omega (arith, more, small) in
-        (ap₂ (λ p q. p && q) (le-leb s.first x more) (lt-ltb x (s.first + s.count) (omega (arith, is, near))), is)
-
--- a frame of the front segment has its place there
-pub front_has : (l : List FrameSegment) (front : FrameSegment) (x : ℕ) → are_in_order l ≡ true → front ≡ front_of l → x < 2 ^ 64
-    → (x + (2 ^ 64 - front.first)) % 2 ^ 64 < front.count → segment_place l x ≡ Some (front.place + (x + (2 ^ 64 - front.first)) % 2 ^ 64)
-front_has [] front x order is small near = let count = ap (λ s. s.count) is in absurd (omega (arith, near, count))
-front_has (s ∷ l) front x order is small near =
-    let P : FrameSegment → Type 0 = λ t. (x + (2 ^ 64 - t.first)) % 2 ^ 64 < t.count in
-    let has = near_has s x (order_parts s l order).0 small (subst P is near) in
-    ap (λ b. option_map (place_in x) (cond b (Some s) (find (has_number x) l))) has.0
-    ∙ ap (λ d. Some (s.place + d)) (omega (arith, has.1))
-    ∙ sym (ap (λ t. Some (t.place + (x + (2 ^ 64 - t.first)) % 2 ^ 64)) is)

@@ -14,8 +14,8 @@ module _ (levels : ℕ) (root : ℕ) where
   valid_above : (words : Words) (recursive : Option ℕ) → IsSound levels words root recursive (serves_below (2 ^ 40)) [] ↔ ValidWith (suc levels) words root recursive
   valid_above words None =
       let means = valid_means levels words root in (
-        λ sound. means.0 sound.tables,
-        λ valid. record { self = tt; tables = means.1 valid },
+        λ sound. record { valid = means.0 sound.tables; self = tt },
+        λ valid. record { self = tt; tables = means.1 valid.valid },
       )
   valid_above words (Some r) =
       let means = valid_means levels (outside_window (Some (window_at words root r)) root words) root in (

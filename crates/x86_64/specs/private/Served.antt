@@ -2,7 +2,7 @@
 use Rattle.std.specs.Prelude.{◌≡◌, ◌≤◌, ◌+◌, ℕ, Bool, true, false, List, [], Option, Some, None, option_map, Result}
 use Rattle.std.proofs.Common.{arith}
 use Rattle.x86_64_model.specs.Call as machine
-use Rattle.x86_64_model.specs.Call.{Call, MapTo, MapToWithTableFlags, IdentityMap, Unmap, UpdateFlags, SetFlags, TranslatePage}
+use Rattle.x86_64_model.specs.Call.{Call}
 use Rattle.x86_64_model.specs.Machine.{Machine, State, step}
 use Rattle.x86_64_model.specs.Hierarchy.{Hierarchy}
 use Rattle.x86_64_model.specs.Refusal.{Answer}
@@ -13,7 +13,7 @@ use Rattle.x86_64_tables.specs.declared.tokens.recorder.FlushItem.{FlushItem}
 use Rattle.std.specs.declared.convert.Infallible.{Infallible}
 use Rattle.x86_64.specs.declared.call_values.PageReply.TheVariants as page_reply
 use Rattle.x86_64.specs.Flushes.{size_items}
-use Rattle.x86_64.specs.Replies.{SizeReply, result_reply, map_error, unmap_error, update_error, translate_error, size_changes_nothing}
+use Rattle.x86_64.specs.Replies.{SizeReply, if_on_page, size_changes_nothing}
 use Rattle.x86_64.specs.Runs.{AfterStep, machine_with, state_in, state_with}
 use Rattle.x86_64.specs.FreeFrames.{KeepsFree}
 
@@ -38,14 +38,7 @@ changes_nothing_where (Some answer) = size_changes_nothing answer
 
 -- The reply to a call on a page of the size S for the machine's answer, or `None` if the machine never answers this call so.
 abbrev pub size_reply : {S : Type 0} → Call → Answer → Option (SizeReply S)
-size_reply (MapTo level page frame flags) = result_reply page_reply.Map (λ mapped. page) map_error
-size_reply (MapToWithTableFlags level page frame flags parent_flags) = result_reply page_reply.Map (λ mapped. page) map_error
-size_reply (IdentityMap level frame flags) = result_reply page_reply.Map (λ mapped. frame) map_error
-size_reply (Unmap level page) = result_reply page_reply.Unmap (λ frame. (frame, page)) unmap_error
-size_reply (UpdateFlags level page flags) = result_reply page_reply.Update (λ frame. page) update_error
-size_reply (SetFlags at level page flags) = result_reply page_reply.TableFlags (λ frame. tt) update_error
-size_reply (TranslatePage level page) = result_reply page_reply.Frame (λ frame. frame) translate_error
-size_reply call = λ answer. None
+size_reply {S = S} call answer = if_on_page (λ level replies. replies S answer) call
 
 -- The reply to a call on a page of the size S for the machine's reply, or `None` if the machine never replies to such a call so.
 -- `Some None` stands for a call that isn't allowed.

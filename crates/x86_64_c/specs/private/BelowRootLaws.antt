@@ -13,18 +13,11 @@ pub own_cleans : (own : List ℕ) (array count : GName) {serves : ℕ → Bool} 
 own_cleans own array count same h after pool rest low high status did = record {
   status_is = did.status_is;
   cleans = let cleans = did.cleans in record {
-    outcome = cleans.outcome;
-    returned = cleans.returned;
+    cleans = cleans.cleans;
     serves = refl;
-    valid = cleans.valid;
     root_entries = cleans.root_entries;
     walks = cleans.walks;
     conserved = cleans.conserved;
-    fits = cleans.fits;
-    empty = cleans.empty;
-    others = cleans.others;
-    layout = cleans.layout;
-    lent = cleans.lent;
   };
   keeps = record { fits = fits_own own array count same did.keeps.fits; conserved = did.keeps.conserved; others = did.keeps.others };
 }

@@ -55,13 +55,10 @@ module _ (own : List ℕ) (array count : GName) {serves : ℕ → Bool} (same : 
                 outcome = made.outcome;
                 made = made.made;
                 entries = made.entries;
-                valid = made.valid;
                 fits = made.fits;
                 conserved = made.conserved;
-                others = made.others;
                 walks = made.walks;
-                layout = made.layout;
-                lent = made.lent;
+                keeps = made.keeps;
                 serves = refl;
               };
           refused = λ some. let same = prepares.refused some in (same.0, ap (λ (s : Supply). record { frames = s.frames; serves = is_in own }) same.1);

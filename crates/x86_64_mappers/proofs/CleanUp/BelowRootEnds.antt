@@ -135,18 +135,17 @@ module _ {Lent : Type 0} (h : Hierarchy Lent) (valid : Valid h) (store : Store) 
 
     did : CleansUpBelowRoot h store low high after rest
     did = record {
-      outcome = c.meant;
-      returned = c.given;
+      cleans = record {
+        outcome = c.meant;
+        returned = c.given;
+        fits = fits_still;
+        empty = c.empty;
+        keeps = record { valid = c.valid; others = c.others; layout = refl; lent = refl };
+      };
       serves = serves;
-      valid = c.valid;
       root_entries = λ i. ap (λ N. entry N (i ∷ [])) c.meant ∙ root_entry_stays levels root before a_tree low high i;
       walks = λ p out. seen after c.valid p out ∙ ap (λ N. walked (entry N) p levels [] true true) c.meant ∙ walked_below_root levels root before a_tree low high p ∙ sym (seen h valid p out);
       conserved = λ f t. ⊎_elim (λ left. inl (subst (λ N. IsTable levels root N f) (sym c.meant) left)) (λ back. inr back) (conserved levels root before a_tree low high f t);
-      fits = fits_still;
-      empty = c.empty;
-      others = c.others;
-      layout = refl;
-      lent = refl;
     }
 
   -- the tables below the root's entries up to an index were cleaned up, and no entry from there on is in range

@@ -35,25 +35,25 @@ module _ (l : Layout) (store rest : Store) (gives : TakesBack store.take_back) (
   tree = tree_of_holds l.levels (words_read l m) l.root M fits.valid.valid.holds
 
   was_free : (f : ℕ) → In rest.frames f → In freed f ⊎ In store.frames f
-  was_free f i = in_append freed store.frames f ((given_frames store.take_back gives store.frames freed f).0 (subst (λ fs. In fs f) did.returned i))
+  was_free f i = in_append freed store.frames f ((given_frames store.take_back gives store.frames freed f).0 (subst (λ fs. In fs f) did.cleans.returned i))
 
   is_free : (f : ℕ) → In freed f ⊎ In store.frames f → In rest.frames f
-  is_free f h = subst (λ fs. In fs f) (sym did.returned)
+  is_free f h = subst (λ fs. In fs f) (sym did.cleans.returned)
       ((given_frames store.take_back gives store.frames freed f).1 (⊎_elim (λ b. in_left freed store.frames f b) (λ s. in_right freed store.frames f s) h))
 
   was_table : (q : List ℕ) (f : ℕ) → table_at l.levels l.root (paths (l laid_in n)) q ≡ Some f → table_at l.levels l.root M q ≡ Some f
-  was_table q f t = left_was l.levels l.root M tree low high q f (ap (λ N. table_at l.levels l.root N q) (sym did.outcome) ∙ t)
+  was_table q f t = left_was l.levels l.root M tree low high q f (ap (λ N. table_at l.levels l.root N q) (sym did.cleans.outcome) ∙ t)
 
   served : (f : ℕ) → In freed f → store.serves f ≡ true
   served f b = let was = back_was l.levels l.root M tree low high f b in fits.serves_tables was.0 was.1 f was.2
 
   fits_again : SupplyFits (l laid_in n) rest.frames
-  fits_again = subst (SupplyFits (l laid_in n)) (sym did.returned) (did.fits store.take_back gives store.frames (ready_of_fits l m store.serves store.frames fits))
+  fits_again = subst (SupplyFits (l laid_in n)) (sym did.cleans.returned) (did.cleans.fits store.take_back gives store.frames (ready_of_fits l m store.serves store.frames fits))
 
   pub keeps : KeepsPool l store.serves m store.frames n rest.frames
   keeps = record {
     fits = record {
-      valid = did.valid;
+      valid = did.cleans.keeps.valid;
       each_once = fits_again.each_once;
       in_memory = fits_again.in_memory;
       are_frames = fits_again.are_frames;
@@ -66,7 +66,7 @@ module _ (l : Layout) (store rest : Store) (gives : TakesBack store.take_back) (
       ⊎_elim (λ s. inl (is_free f (inr s))) (λ t. ⊎_elim (λ left. inr left) (λ b. inl (is_free f (inl b))) (did.conserved f t)),
       ⊎_elim (λ i. ⊎_elim (λ b. let was = back_was l.levels l.root M tree low high f b in inr (was.0 ∷ was.1, was.2)) (λ s. inl s) (was_free f i)) (λ t. inr (t.0, was_table t.0 f t.1)),
     );
-    others = λ k h. did.others k (λ f t. h f (inr t));
+    others = λ k h. did.cleans.keeps.others k (λ f t. h f (inr t));
   }
 
 module _ (shared : ℕ → Bool) (spaces : List Layout) (one : Layout) (member : In spaces one) (mapping : IsMapping one.places) (some : 0 < one.levels) (store rest : Store) (gives : TakesBack store.take_back)

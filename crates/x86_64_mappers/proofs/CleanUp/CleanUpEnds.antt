@@ -38,14 +38,11 @@ module _ {Lent : Type 0} (h : Hierarchy Lent) (adds : IsParentFlags h.layout.add
   ends N back paths_are back_is n rest c = record {
     outcome = is;
     returned = c.given ∙ ap (with_returned take_back held) back_is;
-    valid = c.valid;
     fits = λ other gives supply fits. subst (λ N. Fits L h.layout.window (words (record h { memory = n })) h.layout.root N (λ f. true) (with_returned other supply after.back)) (sym is)
         (step_fits L h.layout.window (words h) (words (record h { memory = n })) h.layout.root (λ f. true) h.layout.added_flags adds other gives (state_of h supply) (CleanUp low high) tt fits
         (subst (IsValidFor L h.layout.window (words (record h { memory = n })) h.layout.root) is c.valid) c.there);
     empty = λ f i. c.empty f (subst (λ fs. In fs f) (sym back_is) i);
-    others = c.others;
-    layout = refl;
-    lent = refl;
+    keeps = record { valid = c.valid; others = c.others; layout = refl; lent = refl };
   }
     where
       is : paths (record h { memory = n }) ≡ after.paths

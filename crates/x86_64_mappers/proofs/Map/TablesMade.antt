@@ -205,16 +205,13 @@ module _ {Lent : Type 0} (h : Hierarchy Lent) (s : Supply) (ready : SupplyFits (
       outcome = ap tables_after (sym left);
       made = parents_made r (ap (λ (a : AfterMap). a.answer) left);
       entries = kept;
-      valid = owned.ready.valid;
       fits = pool_left h.layout h.memory s.frames n rest.frames owned;
       conserved = λ f. subst (λ (a : AfterMap). Owns h s.frames f ↔ IsOwn h.layout.levels h.layout.root a.paths a.supply f)
           (sym (by_past h.layout h.memory s.frames ready more path last ∙ ap (λ ps. map_rule (paths h) s.frames more added ps (path ++ 512 ∷ []) 0 0) (map-id (parents (path ++ 512 ∷ [])))) ∙ left)
           (no_page h.layout h.memory s.frames ready more marks adds (path ++ 512 ∷ []) (λ is. no_end path 512 (sym is)) (simp length-append (omega (arith, short))) f);
-      others = owned.others;
       walks = map_keeps_walks h.layout.levels h.layout.window (words h) (words (h.layout laid_in n)) h.layout.root (paths h) s.frames more added (parents q) [] 0 0 marks way ready.valid
           (subst (IsValidFor h.layout.levels h.layout.window (words (h.layout laid_in n)) h.layout.root) (sym left_paths) owned.ready.valid);
-      layout = refl;
-      lent = refl;
+      keeps = record { valid = owned.ready.valid; others = owned.others; layout = refl; lent = refl };
       serves = serves;
     }
 

@@ -4,14 +4,13 @@ use Rattle.x86_64_model.specs.Conserved.{Conserves}
 use Rattle.x86_64_model.specs.Entry.{used, huge}
 use Rattle.x86_64_model.specs.Validity.{entry_in, IsValid}
 use Rattle.x86_64_model.specs.Layout.{Layout}
-use Rattle.x86_64_model.specs.Hierarchy.{◌laid_in◌, KeepsOthers, SupplyFits, paths, words}
+use Rattle.x86_64_model.specs.Hierarchy.{◌laid_in◌, KeepsOthers, SupplyFits, Uses, paths, words}
 use Rattle.x86_64_model.proofs.Lemmas.Entries.Bits.{unused_zero}
 use Rattle.x86_64_model.proofs.Lemmas.Hierarchies.Changes.{unused_no_table, may_be_leaf}
 use Rattle.x86_64_model.proofs.Lemmas.Hierarchies.Exists.{held_is_paths_of}
 use Rattle.x86_64_model.proofs.Lemmas.Hierarchies.Held.{table_at_last, valid_after}
 use Rattle.x86_64_model.proofs.Lemmas.Maps.Frames.{conserves_marked, same_tables}
 use Rattle.x86_64_model.specs.Lists.{In}
-use Rattle.x86_64_model.specs.private.MapperCalls.{Uses}
 use Rattle.x86_64_model.specs.Memory.{Memory, Distinct, word}
 use Rattle.x86_64_model.specs.Path.{level_of}
 use Rattle.x86_64_model.specs.PathMap.{PathMap, entry, put, table_of, table_at}
@@ -32,7 +31,7 @@ module _ (l : Layout) (apart : Distinct l.places) (at_least_four : 0 < l.levels)
   -- the words now hold N
   pub owned_to : (m n : Memory) (s rest : List ℕ) (N : PathMap) → SupplyFits (l laid_in m) s → IsValid l.levels (words_read l n) l.root N → SelfEntry (words (l laid_in n)) l.root l.window → Conserves l.levels l.root (paths (l laid_in m)) s N rest
       → ((f : ℕ) → In rest f → In s f) → ((f : ℕ) → IsSome (words (l laid_in m) f) → IsSome (words (l laid_in n) f))
-      → KeepsOthers (Uses l m s rest) (l laid_in m) (l laid_in n) → (N ≡ paths (l laid_in n)) × KeepsOwned l m s n rest
+      → KeepsOthers (Uses (l laid_in m) s rest) (l laid_in m) (l laid_in n) → (N ≡ paths (l laid_in n)) × KeepsOwned l m s n rest
   owned_to m n s rest N ready valid self conserves within kept others =
       let e : N ≡ paths (l laid_in n) = held_is_paths_of l.levels (words_read l n) l.root at_least_four N valid.holds in
       let one = conserves.one_each (record { own_frames = ready.valid.valid.own_frames; each_once = ready.each_once; no_table = ready.no_table }) in (
@@ -66,7 +65,7 @@ module _ (l : Layout) (apart : Distinct l.places) (at_least_four : 0 < l.levels)
       pub entry_is : entry M p ≡ word (words (l laid_in m)) f i
       entry_is = ready.valid.valid.holds.entries pre i ∙ ap (λ t. entry_in (words_read l m) t i) leads ∙ read_word l.window l.root (words (l laid_in m)) f i beside
 
-      pub own_place : (rest : List ℕ) → ((g : ℕ) → In rest g → In s g) → (k : ℕ) → ((g : ℕ) → Uses l m s rest g → l.places.place g ≢ k) → k ≢ l.places.place f
+      pub own_place : (rest : List ℕ) → ((g : ℕ) → In rest g → In s g) → (k : ℕ) → ((g : ℕ) → Uses (l laid_in m) s rest g → l.places.place g ≢ k) → k ≢ l.places.place f
       own_place rest within k h e = h f (inr (pre, leads), λ i. ready.no_table f (within f i) (pre, leads)) (sym e)
 
       pub unused_leads : used (word (words (l laid_in m)) f i) ≡ false → table_at l.levels l.root M p ≡ None

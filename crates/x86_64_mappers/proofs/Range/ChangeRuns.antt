@@ -65,9 +65,6 @@ pub ends_changes : {Lent : Type 0} (h after : Hierarchy Lent) (calls : List Call
 ends_changes h after calls answers layout lent run = subst (DoesChanges h calls answers) (with_memory h after layout lent) (record {
   replies = run.replies;
   state = run.state;
-  valid = run.valid;
   fits = run.ready;
-  others = run.others;
-  layout = refl;
-  lent = refl;
+  keeps = record { valid = run.valid; others = run.others; layout = refl; lent = refl };
 })

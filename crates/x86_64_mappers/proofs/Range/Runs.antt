@@ -125,7 +125,12 @@ module _ {Lent : Type 0} (lent : Lent) where
     record {
       answer = next.answer;
       may = record { fits = next.may.fits; allowed = next.may.allowed };
-      does = record { outcome = next.does.outcome; fits = next.does.fits; others = next.does.others; walks = next.does.walks; layout = next.does.layout; lent = refl };
+      does = record {
+        outcome = next.does.outcome;
+        fits = next.does.fits;
+        walks = next.does.walks;
+        keeps = record { valid = next.does.keeps.valid; others = next.does.keeps.others; layout = next.does.keeps.layout; lent = refl };
+      };
       last = next.last;
     },
   )
@@ -137,9 +142,7 @@ ends_run h supply r k replies after rest layout lent run = subst (λ h'. DoesMap
   replies = run.replies;
   state = run.state;
   fits = run.owned.ready;
-  others = run.owned.others;
   walks = run.walks;
   each = each_with h.lent (h.layout laid_in h.memory) supply r k replies (h.layout laid_in after.memory) rest run.each;
-  layout = refl;
-  lent = refl;
+  keeps = record { valid = run.owned.ready.valid; others = run.owned.others; layout = refl; lent = refl };
 })

@@ -1,16 +1,13 @@
 -- The path of a page as the first of its indices, and the page's start.
-use Rattle.std.proofs.Common.{◌≡◌, ◌↔◌, ◌+◌, ◌-◌, ◌*◌, ◌%◌, ◌<◌, ◌≤◌, ℕ, true, List, fold, length, take, inl, inr, refl, ap, ap₂, sym, ◌∙◌, subst, arith}
+use Rattle.std.proofs.Common.{◌≡◌, ◌↔◌, ◌+◌, ◌-◌, ◌*◌, ◌%◌, ◌<◌, ◌≤◌, ℕ, true, List, fold, length, inl, inr, ap, ap₂, sym, ◌∙◌, subst, arith}
 use Rattle.std.proofs.lemmas.List.{take_all}
 use Rattle.x86_64_addr.specs.Levels.{IsLevelCount}
 use Rattle.x86_64_model.proofs.Lemmas.Paths.Begins.{begins_itself}
 use Rattle.x86_64_model.proofs.Lemmas.Machines.Effects.{below_taken}
 use Rattle.x86_64_model.proofs.Lemmas.Machines.Spares.{length_path}
 use Rattle.x86_64_model.proofs.Lemmas.Paths.Spans.{spans_are_intervals}
-use Rattle.x86_64_model.specs.Path.{AllBelow, begins, path_at, span_size, span_start}
+use Rattle.x86_64_model.specs.Path.{AllBelow, begins, span_size, span_start}
 use Rattle.x86_64_model.specs.Position.{page_path, position_count, lower_half, span}
-
-pub taken : (L levels level page n : ℕ) (indices : List ℕ) → levels ≡ L → n ≡ L + 1 - level → indices ≡ page_path L page → take n indices ≡ path_at levels level page
-taken L levels level page n indices known length is = rw (known, length, is) refl
 
 -- ---- the first position of a 4KiB page's path
 

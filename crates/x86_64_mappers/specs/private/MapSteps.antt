@@ -2,9 +2,8 @@
 -- left to do.
 use Rattle.std.specs.Prelude.{◌≡◌, ℕ, List, [], ◌∷◌, ◌++◌, map, Some, Result, Ok, Err}
 use Rattle.x86_64_model.specs.Layout.{Layout}
-use Rattle.x86_64_model.specs.Hierarchy.{◌laid_in◌, KeepsOthers, Owns, SupplyFits, paths}
+use Rattle.x86_64_model.specs.Hierarchy.{◌laid_in◌, KeepsOthers, Owns, SupplyFits, Uses, paths}
 use Rattle.x86_64_model.specs.Lists.{In}
-use Rattle.x86_64_model.specs.private.MapperCalls.{Uses}
 use Rattle.x86_64_model.specs.Memory.{Memory}
 use Rattle.x86_64_model.specs.MapRule.{AfterMap, map_rule}
 use Rattle.x86_64_model.specs.Path.{parents}
@@ -18,7 +17,7 @@ pub record KeepsOwned (l : Layout) (m : Memory) (s : List ℕ) (n : Memory) (res
   pub ready : SupplyFits (l laid_in n) rest
   pub own : (f : ℕ) → Owns (l laid_in n) rest f → Owns (l laid_in m) s f
   pub within : (f : ℕ) → In rest f → In s f
-  pub others : KeepsOthers (Uses l m s rest) (l laid_in m) (l laid_in n)
+  pub others : KeepsOthers (Uses (l laid_in m) s rest) (l laid_in m) (l laid_in n)
 
 -- The outcome of a map that is left to do from the table at the path pre on, where r is what is left of the page's path. The entry
 -- e is to be written for the page, and names the frame.

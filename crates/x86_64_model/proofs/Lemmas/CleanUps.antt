@@ -8,7 +8,6 @@ pub mod Keys
 pub mod Meets
 pub mod Parts
 pub mod Removed
-pub mod Skipped
 pub mod Tables
 pub mod Trees
 pub mod Twice

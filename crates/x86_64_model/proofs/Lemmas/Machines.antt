@@ -12,4 +12,5 @@ pub mod Spares
 pub mod Standing
 pub mod States
 pub mod Witness
+pub mod WordsAlone
 pub mod Writes

@@ -2,19 +2,12 @@
 -- after.
 use Rattle.std.specs.Prelude.{◌≡◌, ℕ, List, Some}
 use Rattle.x86_64_model.specs.Memory.{Memory}
-use Rattle.x86_64_model.specs.Lists.{In}
-use Rattle.x86_64_model.specs.Pool.{IsTable}
 use Rattle.x86_64_model.specs.Refusal.{Answer}
 use Rattle.x86_64_model.specs.MapRule.{map_call}
 use Rattle.x86_64_model.specs.PageRules.{AfterChange, unmap, update_flags, set_flags}
 use Rattle.x86_64_model.specs.Arrivals.{Arrives}
 use Rattle.x86_64_model.specs.Layout.{Layout}
-use Rattle.x86_64_model.specs.Hierarchy.{◌laid_in◌, Hierarchy, Changes, KeepsOthers, Maps, Owns, SupplyFits, Valid, paths, read_entry, walk}
-
--- The frame holds the root or another table, or was taken from the supply (the frames to hand out, in order), of which the rest
--- is left.
-abbrev pub Uses : Layout → Memory → (supply rest : List ℕ) → (frame : ℕ) → Type 0
-Uses l m supply rest f = Owns (l laid_in m) supply f × (In rest f → ⊥)
+use Rattle.x86_64_model.specs.Hierarchy.{◌laid_in◌, Hierarchy, Changes, HoldsTable, KeepsOthers, Maps, SupplyFits, Uses, Valid, paths, read_entry, walk}
 
 -- What a call that maps a page leaves in the memory n, if it began in the memory m. The path map, the supply and the answer are
 -- those of the map rule, the hierarchy is valid again, and the rest of the supply fits it. Only words in the root, the tables
@@ -23,7 +16,7 @@ Uses l m supply rest f = Owns (l laid_in m) supply f × (In rest f → ⊥)
 pub record MapsPage (l : Layout) (m : Memory) (supply : List ℕ) (page : List ℕ) (frame flags parent_flags : ℕ) (answer : Answer) (n : Memory) (rest : List ℕ) : Type 0 where
   pub outcome : map_call l.levels (paths (l laid_in m)) supply parent_flags l.added_flags page frame flags ≡ record { paths = paths (l laid_in n); supply = rest; answer = answer }
   pub ready : SupplyFits (l laid_in n) rest
-  pub others : KeepsOthers (Uses l m supply rest) (l laid_in m) (l laid_in n)
+  pub others : KeepsOthers (Uses (l laid_in m) supply rest) (l laid_in m) (l laid_in n)
   pub walks : (p : ℕ) → Arrives parent_flags (walk (l laid_in m) p) (walk (l laid_in n) p)
 
 -- The result of `unmap` for the hierarchy of a layout in a memory: the path map and the answer.
@@ -45,7 +38,7 @@ pub record IsChanged (l : Layout) (m : Memory) (after : AfterChange) (n : Memory
   pub meant : after.paths ≡ paths (l laid_in n)
   pub valid : Valid (l laid_in n)
   pub ready : (supply : List ℕ) → SupplyFits (l laid_in m) supply → SupplyFits (l laid_in n) supply
-  pub others : KeepsOthers (IsTable l.levels l.root (paths (l laid_in m))) (l laid_in m) (l laid_in n)
+  pub others : KeepsOthers (HoldsTable (l laid_in m)) (l laid_in m) (l laid_in n)
 
 -- The effect of a change of one entry, whose outcome by its rule is given.
 abbrev pub ChangesBy : {Lent : Type 0} → Hierarchy Lent → (rule : AfterChange) → Answer → (after : Hierarchy Lent) → Type 0

@@ -5,7 +5,7 @@ ghost use Rattle.x86_64_model.specs.Entry.{is_frame};
 ghost use Rattle.x86_64_model.specs.Memory.{words_of};
 ghost use Rattle.x86_64_model.specs.private.Marks.{mark_one, mark_all};
 ghost use Rattle.x86_64_tables.specs.LentPool.{FitsRoom};
-ghost use Rattle.x86_64_tables.specs.Tested.{ValidHierarchy};
+ghost use Rattle.x86_64_tables.specs.Tested.{ValidWith};
 ghost use Rattle.x86_64_tables.specs.Views.{mark_of};
 ghost use Rattle.x86_64_tables.specs.private.Soundness.{TablesSoundFor, tables_met};
 
@@ -31,7 +31,7 @@ pub fn is_valid_by_marks<L: LevelCount, T: TableMemory, P: PageTableFrameMapping
 ) -> bool
     requires { length marks.old ≡ map.len (T.tables memory.now) }
     ensures { IsTrue result
-        ↔ ValidHierarchy L.LEVELS (words_of (T.tables memory.now) (P.places mapping.now)) root }
+        ↔ ValidWith L.LEVELS (words_of (T.tables memory.now) (P.places mapping.now)) root None }
 {
     marks.fill(false);
     let view = HierarchyView::<L, _, _>::new(memory, mapping, root, None);

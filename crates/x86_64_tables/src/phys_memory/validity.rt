@@ -4,7 +4,7 @@ ghost use Rattle.std.specs.FinMap.{keys, len};
 ghost use Rattle.x86_64_model.specs.Memory.{identity_places, words_of};
 ghost use Rattle.x86_64_model.specs.private.Tables.{tables_from};
 ghost use Rattle.x86_64_model.specs.private.Marks.{mark_one, mark_all};
-ghost use Rattle.x86_64_tables.specs.Tested.{ValidHierarchy, ValidRecursive, ValidWith, FitsHierarchy, FitsRecursive, FitsWith};
+ghost use Rattle.x86_64_tables.specs.Tested.{ValidWith, FitsWith};
 ghost use Rattle.x86_64_tables.specs.Views.{words_in, words_seen, mark_of};
 ghost use Rattle.x86_64_tables.specs.private.Soundness.{AreMarked, TablesSoundFor};
 
@@ -38,7 +38,7 @@ pub fn is_valid_hierarchy<T: TableMemory, P: PageTableFrameMapping>(
     root: PhysFrame<Size4KiB>,
 ) -> Result<bool, AllocError>
     ensures decides { IfOk result (λ b. IsTrue b
-        ↔ ValidHierarchy 4 (words_of (T.tables memory.now) (P.places mapping.now)) root) }
+        ↔ ValidWith 4 (words_of (T.tables memory.now) (P.places mapping.now)) root None) }
     ensures needs_memory { OnErr result (0 < len (T.tables memory.now)) }
 {
     HierarchyView::<FourLevels, _, _>::new(memory, mapping, root, None).is_valid(alloc)
@@ -62,7 +62,7 @@ pub fn is_valid_hierarchy_57<T: TableMemory, P: PageTableFrameMapping>(
     root: PhysFrame<Size4KiB>,
 ) -> Result<bool, AllocError>
     ensures decides { IfOk result (λ b. IsTrue b
-        ↔ ValidHierarchy 5 (words_of (T.tables memory.now) (P.places mapping.now)) root) }
+        ↔ ValidWith 5 (words_of (T.tables memory.now) (P.places mapping.now)) root None) }
     ensures needs_memory { OnErr result (0 < len (T.tables memory.now)) }
 {
     HierarchyView::<FiveLevels, _, _>::new(memory, mapping, root, None).is_valid(alloc)
@@ -86,7 +86,7 @@ pub fn is_valid_recursive<T: TableMemory>(
     index: PageTableIndex,
 ) -> Result<bool, AllocError>
     ensures decides { IfOk result (λ b. IsTrue b
-        ↔ ValidRecursive 4 (words_of (T.tables memory.now) identity_places) root index) }
+        ↔ ValidWith 4 (words_of (T.tables memory.now) identity_places) root (Some index)) }
     ensures needs_memory { OnErr result (0 < len (T.tables memory.now)) }
 {
     HierarchyView::<FourLevels, _, _>::new(memory, &IdentityMapping, root, Some(index)).is_valid(
@@ -112,7 +112,7 @@ pub fn is_valid_recursive_57<T: TableMemory>(
     index: PageTableIndex,
 ) -> Result<bool, AllocError>
     ensures decides { IfOk result (λ b. IsTrue b
-        ↔ ValidRecursive 5 (words_of (T.tables memory.now) identity_places) root index) }
+        ↔ ValidWith 5 (words_of (T.tables memory.now) identity_places) root (Some index)) }
     ensures needs_memory { OnErr result (0 < len (T.tables memory.now)) }
 {
     HierarchyView::<FiveLevels, _, _>::new(memory, &IdentityMapping, root, Some(index)).is_valid(
@@ -139,7 +139,7 @@ pub fn pool_fits<T: TableMemory, P: PageTableFrameMapping>(
     pool: &FramePool,
 ) -> Result<bool, AllocError>
     ensures decides { IfOk result (λ b. IsTrue b
-        ↔ FitsHierarchy 4 (words_of (T.tables memory.now) (P.places mapping.now)) root pool.now) }
+        ↔ FitsWith 4 (words_of (T.tables memory.now) (P.places mapping.now)) root None pool.now) }
     ensures needs_memory { OnErr result (0 < len (T.tables memory.now)) }
 {
     HierarchyView::<FourLevels, _, _>::new(memory, mapping, root, None).pool_fits(alloc, pool)
@@ -164,7 +164,7 @@ pub fn pool_fits_57<T: TableMemory, P: PageTableFrameMapping>(
     pool: &FramePool,
 ) -> Result<bool, AllocError>
     ensures decides { IfOk result (λ b. IsTrue b
-        ↔ FitsHierarchy 5 (words_of (T.tables memory.now) (P.places mapping.now)) root pool.now) }
+        ↔ FitsWith 5 (words_of (T.tables memory.now) (P.places mapping.now)) root None pool.now) }
     ensures needs_memory { OnErr result (0 < len (T.tables memory.now)) }
 {
     HierarchyView::<FiveLevels, _, _>::new(memory, mapping, root, None).pool_fits(alloc, pool)
@@ -190,7 +190,7 @@ pub fn pool_fits_recursive<T: TableMemory>(
     pool: &FramePool,
 ) -> Result<bool, AllocError>
     ensures decides { IfOk result (λ b. IsTrue b
-        ↔ FitsRecursive 4 (words_of (T.tables memory.now) identity_places) root index pool.now) }
+        ↔ FitsWith 4 (words_of (T.tables memory.now) identity_places) root (Some index) pool.now) }
     ensures needs_memory { OnErr result (0 < len (T.tables memory.now)) }
 {
     HierarchyView::<FourLevels, _, _>::new(memory, &IdentityMapping, root, Some(index)).pool_fits(
@@ -218,7 +218,7 @@ pub fn pool_fits_recursive_57<T: TableMemory>(
     pool: &FramePool,
 ) -> Result<bool, AllocError>
     ensures decides { IfOk result (λ b. IsTrue b
-        ↔ FitsRecursive 5 (words_of (T.tables memory.now) identity_places) root index pool.now) }
+        ↔ FitsWith 5 (words_of (T.tables memory.now) identity_places) root (Some index) pool.now) }
     ensures needs_memory { OnErr result (0 < len (T.tables memory.now)) }
 {
     HierarchyView::<FiveLevels, _, _>::new(memory, &IdentityMapping, root, Some(index)).pool_fits(

@@ -50,7 +50,7 @@ returns-in-Some-clause-step g c =
 pub returns-in-Some-clause-free : goal.returns-in-Some-clause-free
 returns-in-Some-clause-free g c =
     let call = c.in-Of4KiB.call in
-    rw c.in-Of4KiB.is (page_keeps_free _ _ _ g.F.FrameDeallocator.take_back 1 (page_call 1 g.P5.LevelFiveFlags.bits call) (is_on_page 1 g.P5.LevelFiveFlags.bits call) _ _ c.serve_page.ensures.free)
+    rw c.in-Of4KiB.is (page_keeps_free _ _ _ 1 (page_call 1 g.P5.LevelFiveFlags.bits call) (is_on_page 1 g.P5.LevelFiveFlags.bits call) _ _ c.serve_page.ensures.free)
 
 pub returns-in-None-clause-step : goal.returns-in-None-clause-step
 returns-in-None-clause-step g c =
@@ -59,7 +59,7 @@ returns-in-None-clause-step g c =
 pub returns-in-None-clause-free : goal.returns-in-None-clause-free
 returns-in-None-clause-free g c =
     let call = c.in-Of4KiB.call in
-    rw c.in-Of4KiB.is (page_keeps_free _ _ _ g.F.FrameDeallocator.take_back 1 (page_call 1 g.P5.LevelFiveFlags.bits call) (is_on_page 1 g.P5.LevelFiveFlags.bits call) _ _ c.serve_page.ensures.free)
+    rw c.in-Of4KiB.is (page_keeps_free _ _ _ 1 (page_call 1 g.P5.LevelFiveFlags.bits call) (is_on_page 1 g.P5.LevelFiveFlags.bits call) _ _ c.serve_page.ensures.free)
 
 pub returns-in-Some-serve_page-clause-step : goal.returns-in-Some-serve_page-clause-step
 returns-in-Some-serve_page-clause-step g c =
@@ -68,7 +68,7 @@ returns-in-Some-serve_page-clause-step g c =
 pub returns-in-Some-serve_page-clause-free : goal.returns-in-Some-serve_page-clause-free
 returns-in-Some-serve_page-clause-free g c =
     let call = c.in-Of2MiB.call in
-    rw c.in-Of2MiB.is (page_keeps_free _ _ _ g.F.FrameDeallocator.take_back 2 (page_call 2 g.P5.LevelFiveFlags.bits call) (is_on_page 2 g.P5.LevelFiveFlags.bits call) _ _ c.serve_page-in-Of2MiB.ensures.free)
+    rw c.in-Of2MiB.is (page_keeps_free _ _ _ 2 (page_call 2 g.P5.LevelFiveFlags.bits call) (is_on_page 2 g.P5.LevelFiveFlags.bits call) _ _ c.serve_page-in-Of2MiB.ensures.free)
 
 pub returns-in-None-serve_page-clause-step : goal.returns-in-None-serve_page-clause-step
 returns-in-None-serve_page-clause-step g c =
@@ -77,7 +77,7 @@ returns-in-None-serve_page-clause-step g c =
 pub returns-in-None-serve_page-clause-free : goal.returns-in-None-serve_page-clause-free
 returns-in-None-serve_page-clause-free g c =
     let call = c.in-Of2MiB.call in
-    rw c.in-Of2MiB.is (page_keeps_free _ _ _ g.F.FrameDeallocator.take_back 2 (page_call 2 g.P5.LevelFiveFlags.bits call) (is_on_page 2 g.P5.LevelFiveFlags.bits call) _ _ c.serve_page-in-Of2MiB.ensures.free)
+    rw c.in-Of2MiB.is (page_keeps_free _ _ _ 2 (page_call 2 g.P5.LevelFiveFlags.bits call) (is_on_page 2 g.P5.LevelFiveFlags.bits call) _ _ c.serve_page-in-Of2MiB.ensures.free)
 
 pub returns-in-Some-serve_page-2-clause-step : goal.returns-in-Some-serve_page-2-clause-step
 returns-in-Some-serve_page-2-clause-step g c =
@@ -86,7 +86,7 @@ returns-in-Some-serve_page-2-clause-step g c =
 pub returns-in-Some-serve_page-2-clause-free : goal.returns-in-Some-serve_page-2-clause-free
 returns-in-Some-serve_page-2-clause-free g c =
     let call = c.in-Of1GiB.call in
-    rw c.in-Of1GiB.is (page_keeps_free _ _ _ g.F.FrameDeallocator.take_back 3 (page_call 3 g.P5.LevelFiveFlags.bits call) (is_on_page 3 g.P5.LevelFiveFlags.bits call) _ _ c.serve_page-in-Of1GiB.ensures.free)
+    rw c.in-Of1GiB.is (page_keeps_free _ _ _ 3 (page_call 3 g.P5.LevelFiveFlags.bits call) (is_on_page 3 g.P5.LevelFiveFlags.bits call) _ _ c.serve_page-in-Of1GiB.ensures.free)
 
 pub returns-in-None-serve_page-2-clause-step : goal.returns-in-None-serve_page-2-clause-step
 returns-in-None-serve_page-2-clause-step g c =
@@ -95,7 +95,7 @@ returns-in-None-serve_page-2-clause-step g c =
 pub returns-in-None-serve_page-2-clause-free : goal.returns-in-None-serve_page-2-clause-free
 returns-in-None-serve_page-2-clause-free g c =
     let call = c.in-Of1GiB.call in
-    rw c.in-Of1GiB.is (page_keeps_free _ _ _ g.F.FrameDeallocator.take_back 3 (page_call 3 g.P5.LevelFiveFlags.bits call) (is_on_page 3 g.P5.LevelFiveFlags.bits call) _ _ c.serve_page-in-Of1GiB.ensures.free)
+    rw c.in-Of1GiB.is (page_keeps_free _ _ _ 3 (page_call 3 g.P5.LevelFiveFlags.bits call) (is_on_page 3 g.P5.LevelFiveFlags.bits call) _ _ c.serve_page-in-Of1GiB.ensures.free)
 
 pub returns-in-CleanUp-clause-step : goal.returns-in-CleanUp-clause-step
 returns-in-CleanUp-clause-step g c =

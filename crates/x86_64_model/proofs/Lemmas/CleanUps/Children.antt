@@ -20,11 +20,10 @@ use Rattle.x86_64_model.proofs.Lemmas.Paths.Begins.{below_goes_on}
 use Rattle.x86_64_model.proofs.Lemmas.CleanUps.Trees.{goes_below}
 use Rattle.x86_64_model.proofs.Lemmas.CleanUps.Below.{is_before, back_of, paths_at, cleaned_below, back_below, cleaned_before, back_before, Visits}
 use Rattle.x86_64_model.proofs.Lemmas.CleanUps.Keys.{entry-cleaned}
-use Rattle.x86_64_model.proofs.Lemmas.CleanUps.Visits.{next_visits}
 use Rattle.x86_64_model.proofs.Lemmas.Walks.Walked.{one_more}
 use Rattle.x86_64_model.proofs.Lemmas.CleanUps.Befores.{before_goes_on, before_front, not_before, before_more}
 use Rattle.x86_64_model.proofs.Lemmas.Paths.Begins.{below_further, begins_on, begins_itself, from_begins, same_or_below, below_begins, not_below_itself, begins_more}
-use Rattle.x86_64_model.proofs.Lemmas.CleanUps.Parts.{entry-part, outside_part, used_alone-part, same_part, part_tree, same_range, same_parents, same_removed, front_in_range, back-append, back_none, back_same}
+use Rattle.x86_64_model.proofs.Lemmas.CleanUps.Parts.{entry-part, outside_part, used_alone-part, same_part, part_tree, same_range, same_removed, front_in_range, back-append, back_none, back_same}
 
 range_more : (i : ℕ) → range_with_len 0 (i + 1) ≡ range_with_len 0 i ++ i ∷ []
 range_more i = sym (map-id (range_with_len 0 (i + 1))) ∙ map-range_with_len_more (λ x. x) 0 i i (omega arith) ∙ ap (λ is. is ++ i ∷ []) (map-id (range_with_len 0 i))
@@ -111,9 +110,6 @@ module _ (L root : ℕ) (M : PathMap) (tree : IsTree L root M) (low high : ℕ) 
     -- what is left then
     abbrev pub N′ : PathMap
     N′ = cleaned_below L N low high r
-
-    pub visits_next : Visits L N low high r
-    visits_next j = same_parents L N M low high (r ++ j ∷ []) (λ s f. same_front (r ++ j ∷ []) s (begins_on r (j ∷ [])) f) ∙ next_visits L M low high q i visits (sym range_before ∙ inside) j
 
     pub entry_after : entry N′ r ≡ entry N r
     entry_after = outside_part L N low high (is_below r) r (not_below_itself r)

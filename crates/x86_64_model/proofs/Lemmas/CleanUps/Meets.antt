@@ -1,6 +1,6 @@
 -- Which indices of a table meet the range of a clean up, by the paths of its first and last positions.
 use Rattle.std.proofs.Common.{zero, suc, ◌≡◌, ◌≢◌, ◌⊎◌, inl, inr, ⊎_elim, ℕ, ◌+◌, ◌-◌, ◌*◌, ◌/◌, ◌^◌, ◌<◌, ◌≤◌, ◌&&◌, true, false, cond, List, [], ◌∷◌, ◌++◌, length, get_or, nat_le, nat_lt, refl, sym, ap, ap₂, ◌∙◌, subst, arith, ltb-true, lt-ltb, le-ltb, eq-eqb}
-use Rattle.std.proofs.lemmas.Bool.{and_parts, and_from, and_left, and_right, leb-true, le-leb, lt-leb, cases_Bool, cases_lt, cond_both}
+use Rattle.std.proofs.lemmas.Bool.{and_parts, and_from, and_left, and_right, leb-true, le-leb, lt-leb, cases_Bool, cases_lt}
 use Rattle.std.proofs.Math.Bool.{and_comm}
 use Rattle.std.proofs.Math.Nat.{mul-le-mul_right, mod-lt, add-mul}
 use Rattle.x86_64_model.specs.Position.{position_count, page_path, index, span}
@@ -107,26 +107,6 @@ module _ (L p : ℕ) (inside : p < position_count L) where
         late h = ⊎_elim (λ l. absurd (let l2 = not_before (λ e. let t : true ≡ false = sym (ap (λ q. begins q (page_path L p)) e) ∙ h in cc) in omega (arith, l, l2)))
             (λ l. let few : i * s ≤ 512 * s = mul-le-mul_right s (omega (arith, small)) in omega (arith, l, start, size, few))
             (beside q (omega (arith, shorter)) below h)
-
--- ---- the first index is none above the last one
-
-module _ (L low high : ℕ) (low_inside : low < position_count L) (high_inside : high < position_count L) (some : low ≤ high) (q : List ℕ) (shorter : length q < L) (below : AllBelow q) where
-  of_path : (p n : ℕ) → n < L → get_or (page_path L p) n 0 < 512
-  of_path p n l = subst (λ k. k < 512) (sym (path_index L p n l)) (index_small (L - n) p)
-
-  both : begins q (page_path L low) ≡ true → begins q (page_path L high) ≡ true → get_or (page_path L low) (length q) 0 ≤ get_or (page_path L high) (length q) 0
-  both h g =
-      let from = (at_index L low low_inside q 0 shorter below h).0 in
-      let to = (at_index L high high_inside q 0 shorter below g).1 in
-      let a = get_or (page_path L low) (length q) 0 in let b = get_or (page_path L high) (length q) 0 in let s = span_size L (q ++ 0 ∷ []) in
-      ⊎_elim (λ l. let more : (b + 1) * s ≤ a * s = mul-le-mul_right s (let m : b + 1 ≤ a = omega (arith, l) in m) in let sum = add-mul b 1 s in absurd (omega (arith, from, to, some, more, sum)))
-      (λ l. l) (cases_lt b a)
-
-  pub indices_in_order : first_index q (page_path L low) ≤ last_index q (page_path L high)
-  indices_in_order = cond_both (begins q (page_path L low)) (get_or (page_path L low) (length q) 0) 0 (λ a. a ≤ last_index q (page_path L high))
-      (λ h. cond_both (begins q (page_path L high)) (get_or (page_path L high) (length q) 0) 511 (λ b. get_or (page_path L low) (length q) 0 ≤ b)
-      (both h) (λ g. let l = of_path low (length q) shorter in omega (arith, l)))
-      (λ h. omega arith)
 
 -- ---- in a table that the range meets, it meets the indices from the first to the last of these
 

@@ -18,8 +18,7 @@ use Rattle.x86_64_model.proofs.Lemmas.CleanUps.Removed.{removed_gives, in_range_
 use Rattle.x86_64_model.proofs.Lemmas.Paths.Begins.{goes_on_from_below}
 use Rattle.x86_64_model.proofs.Lemmas.CleanUps.Below.{is_before, cleaned, back_of, paths_at, cleaned_below, back_below, cleaned_before, back_before}
 use Rattle.x86_64_model.proofs.Lemmas.CleanUps.Befores.{none_before, all_before}
-use Rattle.x86_64_model.proofs.Lemmas.Paths.Begins.{below_further}
-use Rattle.x86_64_model.proofs.Lemmas.CleanUps.Parts.{same_part, empty_part, part_tree, back_none}
+use Rattle.x86_64_model.proofs.Lemmas.CleanUps.Parts.{same_part, empty_part, back_none}
 use Rattle.x86_64_model.proofs.Lemmas.CleanUps.Children.{at_below}
 
 module _ (L root : ℕ) (M : PathMap) (tree : IsTree L root M) (low high : ℕ) where
@@ -80,6 +79,3 @@ module _ (L root : ℕ) (M : PathMap) (tree : IsTree L root M) (low high : ℕ) 
     pub back_level_one : L ≤ length q + 1 → back_below L M low high q ≡ []
     unfolding paths_below back_of
     back_level_one l = ap (λ n. back_of L M low high (paths_below n q)) (let none : L - 1 - length q ≡ 0 = omega (arith, l) in none)
-
-    pub tree_below : IsTree L root (cleaned_below L M low high q)
-    tree_below = part_tree L root M tree low high (is_below q) (below_further q)

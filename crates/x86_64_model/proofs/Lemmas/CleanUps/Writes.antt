@@ -1,23 +1,15 @@
 -- The word that a clean up sets to 0, once the table that it names is empty.
 use Rattle.std.proofs.Common.{◌≡◌, ◌≢◌, ⊎_elim, ℕ, ◌<◌, true, false, List, [], ◌∷◌, ◌++◌, Some, Option, sym, ap, ◌∙◌}
-use Rattle.std.proofs.lemmas.Bool.{cases_lt, cases_eq}
+use Rattle.std.proofs.lemmas.Bool.{cases_lt}
 use Rattle.x86_64_model.specs.Entry.{used}
-use Rattle.x86_64_model.specs.Memory.{Words, word, set_word}
+use Rattle.x86_64_model.specs.Memory.{Words, set_word}
 use Rattle.x86_64_model.specs.PathMap.{PathMap, entry, put, table_at}
 use Rattle.x86_64_model.specs.Window.{Window, begins_with, outside_window, IsValidFor}
 use Rattle.x86_64_model.proofs.Lemmas.Hierarchies.Changes.{may_be_removed, unused_no_table}
-use Rattle.x86_64_model.proofs.Lemmas.Hierarchies.Held.{table_at-put_same, table_at-put_other, word-set_frame, word-set_index}
-use Rattle.x86_64_model.proofs.Lemmas.Hierarchies.Unset.{word_unset}
+use Rattle.x86_64_model.proofs.Lemmas.Hierarchies.Held.{table_at-put_same, table_at-put_other}
 use Rattle.x86_64_model.proofs.Lemmas.Hierarchies.Trees.{tree_of_holds, some_not_none}
 use Rattle.x86_64_model.proofs.Lemmas.Machines.Writes.{set_written}
 use Rattle.x86_64_model.proofs.Lemmas.Paths.Puts.{no_end}
-
--- words that are 0 stay so
-pub zero_stays : (T : Words) (f i g j : ℕ) → word T g j ≡ 0 → word (set_word T f i 0) g j ≡ 0
-zero_stays T f i g j z = ⊎_elim
-    (λ e. ⊎_elim (λ k. ap (word (set_word T f i 0) g) k ∙ ap (λ g. word (set_word T f i 0) g i) e ∙ word_unset T f i) (λ n. word-set_index T f i 0 g j n ∙ z) (cases_eq j i))
-    (λ n. word-set_frame T f i 0 g j n ∙ z)
-    (cases_eq g f)
 
 module _ (L : ℕ) (window : Option Window) (T : Words) (root : ℕ) (M : PathMap) (valid : IsValidFor L window T root M) where
   -- it is valid without the entry

@@ -1,31 +1,19 @@
 -- A hierarchy after one of its entries is changed in place.
-use Rattle.std.proofs.Common.{◌≡◌, ◌≢◌, inl, inr, ◌<◌, ℕ, Bool, true, false, cond, List, [], set, unwrap_or, Some, None, IsSome, refl, sym, ap, ◌∙◌, subst}
+use Rattle.std.proofs.Common.{◌≡◌, ◌≢◌, inl, inr, ◌<◌, ℕ, Bool, true, cond, List, [], set, unwrap_or, Some, None, IsSome, refl, sym, ap, ◌∙◌, subst}
 use Rattle.std.specs.FinMap.{get, insert, get-insert}
 use Rattle.std.specs.Cmp.{nat_cmp_total}
 use Rattle.x86_64_model.specs.Laws.EntriesInPlace.{IsInPlace, with_word, MayReplace, OneChanged, EntriesMayChange, EntriesStayInPlace}
 use Rattle.x86_64_model.specs.Layout.{Layout}
-use Rattle.x86_64_model.specs.Hierarchy.{◌laid_in◌, Owns, PoolFits, paths, walk, words}
+use Rattle.x86_64_model.specs.Hierarchy.{◌laid_in◌, Owns, PoolFits, paths, words}
 use Rattle.x86_64_model.specs.Memory.{Memory, Words, IsMapping, word, words_of, set_word}
 use Rattle.x86_64_model.specs.PathMap.{PathMap, entry, put, table_at}
 use Rattle.x86_64_model.specs.Pool.{Fits}
-use Rattle.x86_64_model.specs.Position.{page_path}
-use Rattle.x86_64_model.specs.Window.{IsValidFor, begins_with, entry_at, outside_window}
+use Rattle.x86_64_model.specs.Window.{outside_window}
 use Rattle.x86_64_model.proofs.Lemmas.Hierarchies.Exists.{held_is_paths_of}
 use Rattle.x86_64_model.proofs.Lemmas.Hierarchies.Memories.{covered, other_key, words_of-insert}
-use Rattle.x86_64_model.proofs.Lemmas.Walks.Agrees.{reads}
-use Rattle.x86_64_model.proofs.Lemmas.Walks.Fronts.{walked_same, walked_outside, put_same}
-use Rattle.x86_64_model.proofs.Lemmas.Walks.Walked.{walked, page_walk_is}
+use Rattle.x86_64_model.proofs.Lemmas.Spaces.Walks.{walk_of_paths}
+use Rattle.x86_64_model.proofs.Lemmas.Walks.Fronts.{walked_same, put_same}
 use Rattle.x86_64_model.proofs.Lemmas.Live.InPlace.{Replaces, replaces, word_seen, nonzero, fits_written, tables_same, set_table}
-
--- outside the window a walk is that of the path map
-walk_of_paths : (l : Layout) (m : Memory) (M : PathMap) (p : ℕ)
-    → IsValidFor l.levels l.window (words (l laid_in m)) l.root M
-    → begins_with l.window (page_path l.levels p) ≡ false
-    → walk (l laid_in m) p ≡ walked (entry M) p l.levels [] true true
-walk_of_paths l m M p valid out =
-    page_walk_is l.levels (words (l laid_in m)) l.root (entry_at l.window M)
-    (reads l.levels (words (l laid_in m)) l.root M l.window valid) p
-    ∙ walked_outside l.levels l.window M p out
 
 -- the words of the memory then
 pub words_with_word : (l : Layout) → IsMapping l.places → (m : Memory) (f i w : ℕ) (table : List ℕ)

@@ -27,10 +27,8 @@ module _ {Lent : Type 0} (h : Hierarchy Lent) (supply : List ℕ) where
   does_map q frame given more answer n rest mapped = record {
     outcome = ap Some mapped.outcome;
     fits = mapped.ready;
-    others = mapped.others;
     walks = λ m is p. subst (λ m. Arrives m (walk h p) (walk (h.layout laid_in n) p)) (same_Some more m is) (mapped.walks p);
-    layout = refl;
-    lent = refl;
+    keeps = record { valid = mapped.ready.valid; others = mapped.others; layout = refl; lent = refl };
   }
 
   -- a map leads the machine to its outcome
@@ -64,11 +62,11 @@ module _ {Lent : Type 0} (h : Hierarchy Lent) (supply : List ℕ) where
   pub is_mapped : (q : List ℕ) (frame given more : ℕ) (answer : Answer) (after : Hierarchy Lent) (rest : List ℕ) → MapsPath h supply q frame given more answer after rest
       → MapsPage h.layout h.memory supply q frame given more answer after.memory rest
   is_mapped q frame given more answer after rest does = record {
-    outcome = subst (λ l. map_call h.layout.levels (paths h) supply more h.layout.added_flags q frame given ≡ record { paths = paths (l laid_in after.memory); supply = rest; answer = answer }) does.layout
+    outcome = subst (λ l. map_call h.layout.levels (paths h) supply more h.layout.added_flags q frame given ≡ record { paths = paths (l laid_in after.memory); supply = rest; answer = answer }) does.keeps.layout
         (same_Some _ _ does.outcome);
-    ready = subst (λ l. SupplyFits (l laid_in after.memory) rest) does.layout does.fits;
-    others = does.others;
-    walks = λ p. subst (λ l. Arrives more (walk h p) (walk (l laid_in after.memory) p)) does.layout (does.walks more refl p);
+    ready = subst (λ l. SupplyFits (l laid_in after.memory) rest) does.keeps.layout does.fits;
+    others = does.keeps.others;
+    walks = λ p. subst (λ l. Arrives more (walk h p) (walk (l laid_in after.memory) p)) does.keeps.layout (does.walks more refl p);
   }
 
   -- where the processor arrives after a `map_to` with PRESENT
@@ -78,7 +76,7 @@ module _ {Lent : Type 0} (h : Hierarchy Lent) (supply : List ℕ) where
   map_arrives level start frame given low high levels multiple is_frame aligned adds after rest may does is_present =
       let mapped = is_mapped (path_at h.layout.levels level start) frame given (parent_part given) (Done frame) after rest does in
       let arrives = arrives_in_page h.layout level start frame given low high levels multiple is_frame aligned adds h.memory supply after.memory rest may.fits may.allowed mapped is_present in
-      λ offset within. ap (λ l. walk (l laid_in after.memory) (start + offset)) does.layout ∙ arrives offset within
+      λ offset within. ap (λ l. walk (l laid_in after.memory) (start + offset)) does.keeps.layout ∙ arrives offset within
 
 -- ---- changes of one entry
 
@@ -145,12 +143,9 @@ module _ {Lent : Type 0} (h : Hierarchy Lent) where
       → ChangesBy h rule answer (record h { memory = n })
   changed rule answer n is does still = record {
     outcome = ap₂ (λ M a. Some (record { paths = M; answer = a })) does.meant (sym is);
-    valid = does.valid;
     fits = does.ready;
-    others = does.others;
     refused = still;
-    layout = refl;
-    lent = refl;
+    keeps = record { valid = does.valid; others = does.others; layout = refl; lent = refl };
   }
 
   pub does_unmap : (q : List ℕ) (answer : Answer) (n : Memory) → answer ≡ (after_unmap h.layout h.memory q).answer → IsChanged h.layout h.memory (after_unmap h.layout h.memory q) n

@@ -41,7 +41,7 @@ module _ {Lent : Type 0} (h after : Hierarchy Lent) (supply rest : List ℕ) (le
   to_after : (l p f g : ℕ) → IsMappedIn h.layout.levels l (map_call h.layout.levels (paths h) supply (parent_part given) h.layout.added_flags (path_of h level page) frame given).paths (path_of h l p) f g
       → IsMappedAs after l p f g
   to_after l p f g stands =
-      subst (λ (layout : Layout). IsMappedIn layout.levels l (paths (layout laid_in after.memory)) (path_at layout.levels l p) f g) (sym does.layout)
+      subst (λ (layout : Layout). IsMappedIn layout.levels l (paths (layout laid_in after.memory)) (path_at layout.levels l p) f g) (sym does.keeps.layout)
       (subst (λ (a : AfterMap). IsMappedIn h.layout.levels l a.paths (path_of h l p) f g) outcome stands)
 
   -- an accepted map with PRESENT makes its page stand

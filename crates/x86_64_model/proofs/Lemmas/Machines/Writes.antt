@@ -1,24 +1,20 @@
 -- Which word of which frame a call on one entry changes.
-use Rattle.std.proofs.Common.{◌≡◌, ◌≢◌, ◌⊎◌, inl, inr, ⊎_elim, ◌<◌, ◌≤◌, ℕ, ◌==◌, eq-eqb, true, false, cond, List, [], ◌∷◌, ◌++◌, length, get_or, bit_or, Some, None, Option, nat_lt, refl, sym, ap, ◌∙◌, subst, ap₂}
+use Rattle.std.proofs.Common.{◌≡◌, ◌≢◌, ◌⊎◌, inl, inr, ⊎_elim, ◌<◌, ◌≤◌, ℕ, ◌==◌, eq-eqb, true, false, cond, List, [], ◌∷◌, ◌++◌, length, get_or, Some, None, Option, nat_lt, refl, sym, ap, ◌∙◌, subst, ap₂}
 use Rattle.std.proofs.lemmas.Bool.{cases_lt, cases_eq}
 use Rattle.std.proofs.lemmas.List.{get_or_past}
-use Rattle.x86_64_model.specs.Entry.{used, address, no_address}
+use Rattle.x86_64_model.specs.Entry.{used}
 use Rattle.x86_64_model.specs.Memory.{Words, word, word_in, set_word}
 use Rattle.x86_64_model.specs.PathMap.{PathMap, entry, put, table_of, table_at}
 use Rattle.x86_64_model.specs.Validity.{entry_in, Holds, IsValid}
-use Rattle.x86_64_model.specs.Window.{entry_at, Window, IsValidFor, SelfEntry, begins_with, outside_window}
+use Rattle.x86_64_model.specs.Window.{Window, IsValidFor, SelfEntry, begins_with, outside_window}
 use Rattle.x86_64_model.specs.Laws.Hierarchies.{MayBecome}
-use Rattle.x86_64_model.specs.Refusal.{Refusal, Refused, Done}
-use Rattle.x86_64_model.specs.PageRules.{AfterChange, unmap, update_flags, set_flags}
-use Rattle.x86_64_model.specs.MapRule.{leaf_entry}
-use Rattle.x86_64_model.specs.Path.{level_of, front_at, IsPage}
-use Rattle.x86_64_model.specs.Allowed.{set_flags_allowed}
+use Rattle.x86_64_model.specs.Path.{level_of}
 use Rattle.x86_64_model.proofs.Lemmas.Paths.Puts.{by_last}
 use Rattle.x86_64_model.proofs.Lemmas.Hierarchies.Held.{valid_after, table_at_last, word-set_frame, word-set_index}
 use Rattle.x86_64_model.proofs.Lemmas.Hierarchies.Memories.{outside_set}
 use Rattle.x86_64_model.proofs.Lemmas.Hierarchies.Changes.{may_be_marked, zero_not_used}
-use Rattle.x86_64_model.proofs.Lemmas.Hierarchies.Trees.{tree_of_holds, hierarchy_of_valid, used_last, none_or_some, some_is}
-use Rattle.x86_64_model.proofs.Lemmas.Machines.Changes.{IsChange, unmap_change, update_change, set_flags_change}
+use Rattle.x86_64_model.proofs.Lemmas.Hierarchies.Trees.{tree_of_holds, used_last, none_or_some, some_is}
+use Rattle.x86_64_model.proofs.Lemmas.Machines.Changes.{IsChange}
 
 -- a path that isn't empty, by its last index
 last_of : (q : List ℕ) → (q ≡ []) ⊎ ((p : List ℕ) × (i : ℕ) × (q ≡ p ++ i ∷ []))
@@ -117,20 +113,3 @@ change_written L window T root M q w valid c =
       after = subst (λ r. IsValidFor L window (set_word T at.0 i w) root (put M r w)) (sym e)
           (set_written L window T root M valid p i at.0 place.leads place.small out w (ap (λ r. used (entry M r)) (sym e) ∙ c.is_used) may);
     }
-
--- ---- the calls on one entry: a refusal changes nothing, an accepted call one word
-
-abbrev pub OneWrite : (L : ℕ) → Option Window → Words → ℕ → PathMap → List ℕ → ℕ → AfterChange → Type 0
-OneWrite L window T root M q w c = ((why : Refusal) × (c ≡ record { paths = M; answer = Refused why })) ⊎ ((c ≡ record { paths = put M q w; answer = Done (address (entry M q)) }) × Written L window T root M q w)
-
-module _ (L : ℕ) (window : Option Window) (T : Words) (root : ℕ) (M : PathMap) (valid : IsValidFor L window T root M) (q : List ℕ) (page : IsPage L q) (out : begins_with window q ≡ false) where
-  pub unmap_writes : OneWrite L window T root M q 0 (unmap L (entry_at window M) M q)
-  unmap_writes = unmap_change L window M q page out (OneWrite L window T root M q 0) (λ why. inl (why, refl)) (λ c. inr (refl, change_written L window T root M q 0 valid c))
-
-  pub update_writes : (given : ℕ) → OneWrite L window T root M q (leaf_entry L q (address (entry M q)) given) (update_flags L (entry_at window M) M q given)
-  update_writes given = update_change L window M q page out given (OneWrite L window T root M q (leaf_entry L q (address (entry M q)) given)) (λ why. inl (why, refl)) (λ c. inr (refl, change_written L window T root M q _ valid c))
-
-  pub set_flags_writes : (level given : ℕ) → 2 ≤ level → level ≤ L → no_address given ≡ true → set_flags_allowed L (entry_at window M) M level q given ≡ true
-      → OneWrite L window T root M (front_at L level q) (bit_or (address (entry M (front_at L level q))) given) (set_flags L (entry_at window M) M level q given)
-  set_flags_writes level given low top plain may = set_flags_change L window root M (hierarchy_of_valid L _ root M valid.valid) level q given low top page out plain may
-      (OneWrite L window T root M (front_at L level q) (bit_or (address (entry M (front_at L level q))) given)) (λ why. inl (why, refl)) (λ c. inr (refl, change_written L window T root M (front_at L level q) _ valid c))

@@ -1,8 +1,8 @@
 -- The mappings from a position on, as an iterator takes them: the one found there is the next, and if none is found they are
 -- those from a later position on.
-use Rattle.std.proofs.Common.{◌≡◌, ◌<◌, ◌≤◌, ◌+◌, ◌*◌, ◌/◌, ◌%◌, ◌^◌, ℕ, [], ◌∷◌, Some, None, ◌∙◌, arith}
+use Rattle.std.proofs.Common.{◌≡◌, ◌<◌, ◌≤◌, ◌+◌, ℕ, [], ◌∷◌, Some, None, ◌∙◌, arith}
 use Rattle.x86_64_model.specs.Memory.{Words}
-use Rattle.x86_64_model.specs.Position.{span, position_count}
+use Rattle.x86_64_model.specs.Position.{position_count}
 use Rattle.x86_64_model.specs.Mappings.{Mapping, mappings_of, mappings_from}
 use Rattle.x86_64_model.specs.private.Found.{found}
 use Rattle.x86_64_model.proofs.Lemmas.Mappings.Chains.{from_kept, from_dropped, found_first, from_same}
@@ -24,16 +24,3 @@ pub from_last : (L : ℕ) (T : Words) (root : ℕ) → mappings_from (position_c
 from_last L T root = from_dropped (position_count L) 0 (position_count L) (mappings_of L T root) (mappings_chain L T root) (omega arith)
 
 -- ---- what a found mapping is
-
--- the page of a level at a position
-pub record IsFound (L p : ℕ) (m : Mapping) (level : ℕ) : Type 0 where
-  pub low : 1 ≤ level
-  pub high : level ≤ 3
-  pub levels : level ≤ L
-  pub size : m.size ≡ span level
-  pub start : m.start ≡ p / span level * span level
-  pub from : m.start ≤ p
-  pub to : p < m.start + m.size
-  pub inside : m.start + m.size ≤ position_count L
-  pub frame : m.frame % span level ≡ 0
-  pub frame_inside : m.frame < 2 ^ 52

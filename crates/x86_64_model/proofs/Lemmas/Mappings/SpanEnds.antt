@@ -1,5 +1,5 @@
 -- The span of a level that a position lies in: where it starts and ends, and that its positions have the same indices from the level up.
-use Rattle.std.proofs.Common.{zero, suc, ◌≡◌, ◌<◌, ◌≤◌, ◌+◌, ◌-◌, ◌*◌, ◌/◌, ◌%◌, ◌^◌, ℕ, sym, ap, ◌∙◌, subst, arith}
+use Rattle.std.proofs.Common.{suc, ◌≡◌, ◌<◌, ◌≤◌, ◌+◌, ◌-◌, ◌*◌, ◌/◌, ◌%◌, ◌^◌, ℕ, sym, ap, ◌∙◌, subst, arith}
 use Rattle.std.proofs.lemmas.Nat.{pow-add, div-mul-add}
 use Rattle.std.proofs.Math.Nat.{div-mul-le_self, lt-div-mul-add, mul-le-mul_right, add-mul, mul_assoc, mul_comm, div-lt_iff_lt-mul}
 use Rattle.x86_64_model.specs.Position.{index, span, position_count}
@@ -23,27 +23,6 @@ span_end_after level p = lt-div-mul-add (span_pos level)
 pub same_number : (level p x : ℕ) → p / span level * span level ≤ x → x < span_end level p → x / span level ≡ p / span level
 same_number level p x from to = let low = p / span level * span level in
     ap (λ x. x / span level) (let e : x ≡ low + (x - low) = omega (arith, from) in e) ∙ div-mul-add (p / span level) (span level) (x - low) (omega (arith, from, to))
-
-pub same_index : (level p x : ℕ) → p ≤ x → x < span_end level p → index level x ≡ index level p
-unfolding index
-same_index level p x from to = ap (λ n. n % 512) (same_number level p x (let low = span_from level p in omega (arith, low, from)) to)
-
--- the span of an entry is inside that of its table
-pub span_end_up : (level p : ℕ) → 1 ≤ level → span_end level p ≤ span_end (level + 1) p
-span_end_up zero p some = absurd (omega arith)
-span_end_up (suc n) p some =
-    let w = position_count n in let y = p / w in
-    let all : y + 1 ≤ (y / 512 + 1) * 512 = omega arith in
-    let most : (y + 1) * w ≤ (y / 512 + 1) * 512 * w = mul-le-mul_right w all in
-    let one : span_end (suc n) p ≡ (y + 1) * w = ap (λ s. p / s * s + s) (span-next n) ∙ sym (add-mul y 1 w ∙ ap (λ z. y * w + z) (let e : 1 * w ≡ w = omega arith in e)) in
-    let up : p / position_count (suc n) ≡ y / 512 = number-up n p in
-    let two : span_end (suc n + 1) p ≡ (y / 512 + 1) * 512 * w =
-    ap (λ k. p / k * k + k) (ap span (let e : suc n + 1 ≡ suc (suc n) = omega arith in e) ∙ span-next (suc n))
-    ∙ ap (λ z. z * position_count (suc n) + position_count (suc n)) up
-    ∙ ap (λ z. y / 512 * z + z) (count-next n)
-    ∙ (let e : y / 512 * (512 * w) + 512 * w ≡ (y / 512 + 1) * (512 * w) = sym (add-mul (y / 512) 1 (512 * w) ∙ ap (λ z. y / 512 * (512 * w) + z) (let o : 1 * (512 * w) ≡ 512 * w = omega arith in o)) in e)
-    ∙ sym (mul_assoc (y / 512 + 1) 512 w) in
-    omega (arith, most, one, two)
 
 pub span_end_inside : (L level p : ℕ) → 1 ≤ level → level ≤ L → p < position_count L → span_end level p ≤ position_count L
 span_end_inside L level p low high inside =

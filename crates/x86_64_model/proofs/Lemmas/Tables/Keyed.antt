@@ -35,9 +35,6 @@ module _ (memory : Memory) (places : Places) where
       by true c h = let r = position-Some (eq_by_cmp nat_cmp (places.place f)) (keys memory) k 0 h in record { covered = c; within = r.0; is = same_place _ _ r.1 }
       by false c h = absurd (let t : None ≡ Some k = h in cc)
 
-  pub spot_within : (f k : ℕ) → spot_of memory places f ≡ Some k → k < length (keys memory)
-  spot_within f k h = (spot_found f k h).within
-
   same_some : (f : ℕ) → IsSome (words_of memory places f) ↔ IsSome (spot_of memory places f)
   unfolding spot_of
   same_some f = by (places.covers f)

@@ -1,7 +1,7 @@
 use Rattle.std.proofs.Common.{◌≡◌, ◌≢◌, inl, ap, sym, ◌∙◌, subst, refl, List, ℕ, Some, IsSome, arith}
 use Rattle.std.proofs.Common.{cond, None, [], true, false}
 use Rattle.std.specs.FinMap.{get}
-use Rattle.x86_64_model.specs.Hierarchy.{◌laid_in◌, KeepsOutside, Owns}
+use Rattle.x86_64_model.specs.Hierarchy.{◌laid_in◌, KeepsOthers, Owns}
 use Rattle.x86_64_model.specs.Memory.{words_of}
 use Rattle.x86_64_model.specs.Spaces.{AreSpaces}
 use Rattle.x86_64_model.proofs.Lemmas.Hierarchies.Memories.{covered}
@@ -66,7 +66,7 @@ returns-clause-given_up g c =
     let stored = stores m n place c.zero.new.self (g.met.T.TableMemory.puts c.args.memory.now place c.zero.new.self there) in
     let cleared : words_of n places space.root ≡ Some zero_words =
     ap (λ b. cond b (get n (places.place space.root)) None) (covered m places space.root words) ∙ ap (get n) (sym c.frame_to_pointer.ensures) ∙ stored.here ∙ ap Some c.zero.ensures in
-    let others : KeepsOutside places (λ f. f ≡ space.root) m n =
+    let others : KeepsOthers (λ f. f ≡ space.root) (gone laid_in m) (gone laid_in n) =
     λ k apart. stored.others k (λ e. apart space.root refl (sym (e ∙ c.frame_to_pointer.ensures))) in
     let rest : g.F.FrameAllocator.supply c.deallocate_frame.new.self ≡ back =
     g.met.F.FrameStore.one_list c.deallocate_frame.new.self ∙ c.deallocate_frame.ensures.held

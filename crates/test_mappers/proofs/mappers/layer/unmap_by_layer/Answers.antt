@@ -10,11 +10,8 @@ returns g c =
     let Unmaps = λ (h after : Hierarchy g.M.Tables.Lent). Does h (Unmap g.S.PageSize.LEVEL c.args.page) (frame_answer c.unmap_by-answer.result) after in
     let does : Unmaps (g.M.Tables.hierarchy c.new-layer.result.mapper.now) (g.M.Tables.hierarchy c.unmap_by-answer.new.mapper.mapper.now) = record {
       outcome = d.outcome;
-      valid = d.valid;
       fits = d.fits;
-      others = d.others;
       refused = d.refused;
-      layout = d.layout;
-      lent = ap (λ lent. lent.1) d.lent;
+      keeps = record { valid = d.keeps.valid; others = d.keeps.others; layout = d.keeps.layout; lent = ap (λ lent. lent.1) d.keeps.lent };
     } in
     subst₂ (λ m n. Unmaps (g.M.Tables.hierarchy m) (g.M.Tables.hierarchy n)) c.new-layer.ensures.mapper (search rules) does
