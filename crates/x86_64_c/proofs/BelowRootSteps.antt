@@ -1,5 +1,5 @@
 -- What a mapper did below the root's entries, stated of the words in the caller's memory.
-use Rattle.std.proofs.Common.{◌≡◌, ℕ, ◌+◌, Bool, List, Some, None, refl, sym, ◌∙◌, subst, subst₂}
+use Rattle.std.proofs.Common.{◌≡◌, ℕ, ◌+◌, Bool, List, Some, None, refl, sym, ◌∙◌, subst₂}
 use Rattle.x86_64_mappers.proofs.CleanUp.BelowRootSpaces.{keeps}
 use Rattle.x86_64_mappers.specs.CleanUpsBelowRoot.{CleansUpBelowRoot}
 use Rattle.x86_64_model.proofs.Lemmas.Machines.WordsAlone.{in_words, frees_alone}

@@ -29,7 +29,8 @@ use Rattle.x86_64_c.specs.Arguments.{hierarchy_in}
 use Rattle.x86_64_c.specs.PoolCalls.{ExecutesOrNothing, Request, RunsCall, wrong_pool_call, loan, machine_status, pool_in}
 use Rattle.x86_64_c.specs.Status.{ok}
 use Rattle.x86_64_c.specs.declared.arguments.Hierarchy.{Hierarchy as Given}
-use Rattle.x86_64_c.specs.private.OrNothing.{RunsIfOk, RunsOrNothing, is_refusal}
+use Rattle.x86_64_c.specs.private.OrNothing.{RunsIfOk, is_refusal}
+use Rattle.x86_64_c.specs.private.Pools.{TakesStep}
 use Rattle.x86_64_c.proofs.ArgumentsGiven.{kept}
 use Rattle.x86_64_c.proofs.EntryChanges.{of}
 use Rattle.x86_64_c.proofs.Executed.{executes, refuses}
@@ -138,7 +139,7 @@ module _ {S L : Type 0} (l : Layout) (store : Store) (m : Memory) (map : PageMap
 module _ (own : List ℕ) (h : Given) (ts us : List (List ℕ)) (array left : List ℕ) (free : ℕ) (request : Request) where
   -- a call with right arguments that was executed, or changed nothing, did so with what the caller lent
   pub executes_or_nothing : (number status : ℕ) → wrong_pool_call h (loan ts array free) request ≡ None
-      → RunsOrNothing own (hierarchy_in h ts) array free (request.call h.levels) (hierarchy_in h us) left number status
+      → TakesStep own (hierarchy_in h ts) array free (λ pool rest. RunsIfOk (hierarchy_in h ts) pool (request.call h.levels) (hierarchy_in h us) rest status) (is_refusal status) (hierarchy_in h us) left number
       → ExecutesOrNothing own h (loan ts array free) request status (loan us left number)
   executes_or_nothing number status good runs = record {
     status_is = runs.0.does.status_is ∙ sym (ap (λ o. option_or o (machine_status (hierarchy_in h ts) (pool_in own array free) (request.call h.levels))) good);

@@ -1,6 +1,7 @@
 -- What making the tables above a page leaves of the caller's tables and pool, and the status that it has.
 use Rattle.std.proofs.Common.{◌≡◌, ℕ, true, false, true≢false, not, List, Option, Some, None, Result, Ok, Err, refl, sym, ap, ap₂, ◌∙◌, subst, subst₂}
 use Rattle.std.proofs.lemmas.Bool.{ne_eqb}
+use Rattle.std.specs.Option.{option_or}
 use Rattle.x86_64_live.specs.Prepares.{Prepares}
 use Rattle.x86_64_mappers.specs.PageAnswers.{allows_page}
 use Rattle.x86_64_mappers.specs.Supplies.{Supply}
@@ -20,7 +21,8 @@ use Rattle.x86_64_c.specs.Preparations.{ExecutesPreparation, PreparesPage, prepa
 use Rattle.x86_64_c.specs.Status.{not_allowed, ok}
 use Rattle.x86_64_c.specs.declared.arguments.Hierarchy.{Hierarchy as Given}
 use Rattle.x86_64_c.specs.declared.arguments.Page.{Page}
-use Rattle.x86_64_c.specs.private.PreparationSteps.{PreparesIn}
+use Rattle.x86_64_c.specs.private.OrNothing.{is_refusal}
+use Rattle.x86_64_c.specs.private.Pools.{TakesStep}
 use Rattle.x86_64_c.proofs.ArgumentsGiven.{kept}
 use Rattle.x86_64_c.proofs.EntryChanges.{of}
 
@@ -77,10 +79,16 @@ prepared_serves h after supply rest level page more (Err why) prepares = ap (λ 
 
 -- ---- in the caller's tables and pool
 
+-- beside the page nothing can be wrong
+pub or_none : (o : Option ℕ) → option_or o None ≡ o
+or_none None = refl
+or_none (Some why) = refl
+
 module _ (own : List ℕ) (h : Given) (ts us : List (List ℕ)) (array left : List ℕ) (free : ℕ) (page : Page) (more : ℕ) where
   -- with right arguments
   pub executes_preparation : (number status : ℕ) → wrong_preparation h (loan ts array free) page ≡ None
-      → PreparesIn own (hierarchy_in h ts) array free (level_of_page_size page.size) (position_of h.levels page.start) more (hierarchy_in h us) left number status
+      → TakesStep own (hierarchy_in h ts) array free (λ pool rest. PreparesPage (hierarchy_in h ts) pool (level_of_page_size page.size) (position_of h.levels page.start) more (hierarchy_in h us) rest status) (is_refusal status)
+      (hierarchy_in h us) left number
       → ExecutesPreparation own h (loan ts array free) page more status (loan us left number)
   executes_preparation number status good runs = record {
     bad = λ why is. absurd (let e : None ≡ Some why = sym good ∙ is in cc);

@@ -1,5 +1,5 @@
 -- What a mapper did with a range, stated of the words in the caller's memory.
-use Rattle.std.proofs.Common.{zero, suc, ◌≡◌, inl, inr, ◌≤◌, ◌<◌, ◌+◌, ◌*◌, ℕ, Bool, false, List, [], ◌∷◌, ◌++◌, length, Option, Some, Result, Ok, Err, IfOk, IfErr, refl, sym, ap, ◌∙◌, subst, subst₂, arith}
+use Rattle.std.proofs.Common.{zero, suc, ◌≡◌, inl, inr, ◌≤◌, ◌<◌, ◌+◌, ◌*◌, ℕ, Bool, false, List, [], ◌∷◌, ◌++◌, length, Option, Some, Result, Ok, Err, IfOk, IfErr, refl, sym, ap, ◌∙◌, subst, arith}
 use Rattle.std.proofs.lemmas.List.FromFn.{length-map-range_with_len}
 use Rattle.x86_64_model.specs.Call.{Call, IsPageLevel, Reply, NotAllowed, Answered, Position, Address, Cleaned, Unmap, UpdateFlags}
 use Rattle.x86_64_model.specs.Entry.{IsParentFlags}
@@ -25,10 +25,7 @@ use Rattle.x86_64_c.proofs.EntryChanges.{is_page_level, of}
 use Rattle.x86_64_c.proofs.RangeArguments.{page_before}
 use Rattle.x86_64_c.proofs.RangeKeeps.{keeps_calls, are_calls}
 use Rattle.x86_64_c.specs.Calls.{result_status}
-use Rattle.x86_64_c.specs.Arguments.{IsPageOf, level_of_page_size, position_of}
-use Rattle.x86_64_c.specs.Ranges.{ChangesRange, Maps, UnmapsRange}
-use Rattle.x86_64_c.specs.private.RangeMaps.{TellsUpdates}
-use Rattle.x86_64_c.specs.declared.arguments.Page.{Page}
+use Rattle.x86_64_c.specs.Ranges.{ChangesRange, Maps}
 
 -- ---- the calls on a range
 
@@ -171,16 +168,3 @@ mapped h after l m n layout memory left adds pool rest r are fits page count (Er
         keeps = maps_keep l m n pool.serves pool.frames r (k + 1) (answers k) rest.frames adds (are (k + 1)) fits did;
       },
     )
-
--- ---- from the page on that was handed in
-
-module _ {L level position : ℕ} {page : Page} (is : IsPageOf L page level position) {h after : Hierarchy (Unit {0})} {count : ℕ} where
-  pub unmaps_given : {array frames : List ℕ} {status frame_count done : ℕ}
-      → UnmapsRange h level position count array after status frames frame_count done
-      → UnmapsRange h (level_of_page_size page.size) (position_of L page.start) count array after status frames frame_count done
-  unmaps_given {array} {frames} {status} {frame_count} {done} =
-      subst₂ (λ v p. UnmapsRange h v p count array after status frames frame_count done) is.level_is is.position_is
-
-  pub updates_given : {flags : ℕ} {changed : Option ℕ} → TellsUpdates h level position flags count after changed
-      → TellsUpdates h (level_of_page_size page.size) (position_of L page.start) flags count after changed
-  updates_given {flags} {changed} = subst₂ (λ v p. TellsUpdates h v p flags count after changed) is.level_is is.position_is

@@ -1,5 +1,5 @@
 -- What is wrong with the arguments of calls on several address spaces, and what these leave if something is.
-use Rattle.std.proofs.Common.{◌≡◌, inl, inr, ◌≤◌, ◌↔◌, ℕ, ◌==◌, ◌||◌, ◌&&◌, nat_le, nat_lt, Bool, true, false, List, length, Some, None, IsTrue, Option, refl, sym, subst, subst₂, ◌∙◌, arith}
+use Rattle.std.proofs.Common.{◌≡◌, inl, inr, ◌≤◌, ◌↔◌, ℕ, nat_le, nat_lt, Bool, true, false, List, length, Some, None, IsTrue, Option, refl, sym, subst, subst₂, ◌∙◌, arith}
 use Rattle.std.specs.Option.{option_or}
 use Rattle.std.proofs.lemmas.Bool.{leb-true}
 use Rattle.x86_64_c.specs.AddressSpaces.{wrong_indices, wrong_gone, bad_new, bad_gone, MakesSpace, GivesUpSpace}
@@ -23,11 +23,11 @@ tells false s is means same = record {
 -- ---- arguments that are right
 
 -- nothing is wrong with any of several arguments if nothing is with the first, and with the others
-none_both : {X : Type 0} (a b : Option X) → option_or a b ≡ None → (a ≡ None) × (b ≡ None)
+pub none_both : {X : Type 0} (a b : Option X) → option_or a b ≡ None → (a ≡ None) × (b ≡ None)
 none_both None b none = (refl, none)
 none_both (Some x) b none = absurd (let e : Some x ≡ None = none in cc)
 
-unless_none : (b : Bool) (why : ℕ) → unless b why ≡ None → b ≡ true
+pub unless_none : (b : Bool) (why : ℕ) → unless b why ≡ None → b ≡ true
 unless_none true why none = refl
 unless_none false why none = absurd (let e : Some why ≡ None = none in cc)
 

@@ -5,7 +5,7 @@ use Rattle.x86_64_model.specs.Lists.{In}
 use Rattle.x86_64_model.specs.Store.{StoreFits}
 use Rattle.x86_64_spaces.specs.declared.giving_up.GiveUpError.{GiveUpError}
 use Rattle.x86_64_spaces.specs.declared.giving_up.GiveUpError.TheVariants.{EntryUsed, FrameZero}
-use Rattle.x86_64_spaces.specs.SpaceCalls.{TakesFirst, IsMade, IsGivenUp, IsReason}
+use Rattle.x86_64_spaces.specs.SpaceCalls.{TakesFirst, IsMade, IsReason}
 use Rattle.x86_64_spaces.specs.SpaceLayouts.{HasSharedAlone}
 use Rattle.x86_64_tables.specs.LentMemory.{numbered}
 use Rattle.x86_64_tables.specs.LentPool.{stacked}
@@ -15,7 +15,6 @@ use Rattle.x86_64_c.specs.Arguments.{hierarchy_in}
 use Rattle.x86_64_c.specs.PoolCalls.{Loan, loan, pool_in}
 use Rattle.x86_64_c.specs.Status as status
 use Rattle.x86_64_c.specs.declared.arguments.Hierarchy.{Hierarchy as Given}
-use Rattle.x86_64_c.specs.private.Pools.{Leaves}
 use Rattle.x86_64_c.specs.private.Spaces.{MakesRoot}
 use Rattle.x86_64_c.proofs.ArgumentsGiven.{kept}
 use Rattle.x86_64_c.proofs.SpaceArguments.{root_not_zero, within_new}

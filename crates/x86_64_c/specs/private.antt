@@ -4,7 +4,6 @@ pub mod Operations
 pub mod OrNothing
 pub mod PoolLaws
 pub mod Pools
-pub mod PreparationSteps
 pub mod RangeMaps
 pub mod RangeTasks
 pub mod Spaces

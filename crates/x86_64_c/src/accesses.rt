@@ -124,8 +124,6 @@ impl<'a> Operation for Asked<'a> {
     ghost wrong = { λ asked levels tables room. wrong_access_request levels asked.controls.now
         asked.request.now };
 
-    ghost may = { λ asked h array. Unit {0} };
-
     ghost does = { λ asked h array after left came.
         (memory_unit.outcome_of came ≡ access_outcome h asked.controls.now asked.request.now)
         × (after.memory ≡ memory_accessed h asked.controls.now asked.request.now) × StillFits h after };

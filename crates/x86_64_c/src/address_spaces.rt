@@ -318,17 +318,13 @@ pub struct MakeRoot {
 }
 
 impl<L: LevelCount> PoolStep<L> for MakeRoot {
-    ghost use Rattle.std.specs.Prelude.{false, IfSome};
+    ghost use Rattle.std.specs.Prelude.{IfSome};
     ghost use Rattle.x86_64_c.specs.AddressSpaces.{space_at};
     ghost use Rattle.x86_64_c.specs.private.PoolLaws.{own_root};
     ghost use Rattle.x86_64_spaces.specs.SpaceCalls.{IsMade, TakesFirst};
     ghost use Rattle.x86_64_spaces.specs.SpaceLayouts.{indices_of};
 
     type Out = Option<PhysFrame<Size4KiB>>;
-
-    ghost gives_root = { λ _. false };
-
-    ghost refused = { λ _. false };
 
     ghost does = { λ make h pool after rest made. TakesFirst pool made rest × IfSome made (λ root.
         IsMade (indices_of make.shared) h pool (space_at root) after.memory rest) };

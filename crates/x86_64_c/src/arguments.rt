@@ -2,11 +2,18 @@
 ghost use Rattle.std.specs.Prelude.{◌≡◌, true, false, Some, None, IfOk, IfErr, IfSome, IfNone};
 ghost use Rattle.x86_64_c.specs.Arguments as given;
 ghost use Rattle.x86_64_c.specs.Status as status;
+ghost use Rattle.x86_64_live.specs.MapsOrNothing.{call_for};
+ghost use Rattle.x86_64_model.specs.Call.{MapToWithTableFlags};
+ghost use Rattle.x86_64_model.specs.Position.{span};
 
 use crate::status;
+use bitflags::Flags;
 use x86_64::structures::paging::mapper::PageTableFrameMapping;
-use x86_64::structures::paging::{PageIn, PageSize, PhysFrame, Size1GiB, Size2MiB, Size4KiB};
+use x86_64::structures::paging::{
+    PageIn, PageSize, PageTableFlags, PhysFrame, Size1GiB, Size2MiB, Size4KiB,
+};
 use x86_64::{FrameSegment, LevelCount, PhysAddr, VirtAddrIn};
+use x86_64_live::PageMap;
 use x86_64_page::range::BlockRangeInclusive;
 
 /// A hierarchy of page tables in an array of tables.
@@ -120,6 +127,7 @@ pub fn address_of<L: LevelCount>(address: u64) -> Result<VirtAddrIn<L>, u32>
 pub fn page_of<L: LevelCount>(page: &Page) -> Result<AnyPage<L>, u32>
     ensures page { IfOk result (λ any.
         given.IsPageOf L.LEVELS page.now (given.any_level any) (given.any_position any)) }
+    ensures size { IfOk result (λ any. page.now.size ≡ span (given.any_level any)) }
     ensures good { IfOk result (λ _. given.wrong_page L.LEVELS page.now ≡ None) }
     ensures bad { IfErr result (λ status. given.wrong_page L.LEVELS page.now ≡ Some status) }
 {
@@ -145,6 +153,25 @@ pub fn page_at<S: PageSize, L: LevelCount>(start: u64) -> Result<PageIn<S, L>, u
         Ok(page) => Ok(page),
         Err(_) => Err(status::BAD_PAGE),
     }
+}
+
+/// Returns the map of a page to the frame of a request, or the status that says that no frame of the page's size starts there.
+pub fn page_map<S: PageSize, L: LevelCount>(
+    request: &MapRequest,
+    page: PageIn<S, L>,
+) -> Result<PageMap<S, L>, u32>
+    ensures call { IfOk result (λ map. call_for S.LEVEL map ≡ MapToWithTableFlags S.LEVEL page
+        request.now.frame request.now.flags request.now.parent_flags) }
+    ensures good { IfOk result (λ _. given.wrong_frame S.SIZE request.now.frame ≡ None) }
+    ensures bad { IfErr result (λ status. given.wrong_frame S.SIZE request.now.frame ≡ Some status) }
+{
+    let frame = frame_at(request.frame)?;
+    Ok(PageMap {
+        page,
+        frame,
+        flags: PageTableFlags::from_bits_retain(request.flags),
+        parent_flags: PageTableFlags::from_bits_retain(request.parent_flags),
+    })
 }
 
 /// Returns the range of pages from one address to another, or the status that says that there is none.

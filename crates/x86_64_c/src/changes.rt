@@ -26,7 +26,7 @@ pub trait EntryChange {
     type Out;
 
     /// What is wrong with the change, for a number of levels of tables.
-    ghost wrong: { Self → (levels : ℕ) → Option ℕ };
+    ghost wrong: { Self → (levels : ℕ) → Option ℕ } = { λ _ _. None };
 
     /// What the change does to a hierarchy, with the level of the page's entry and its position, and what it returns.
     ghost makes: { Self → Hierarchy (Unit {0}) → (level page : ℕ) → (after : Hierarchy (Unit {0}))
@@ -144,12 +144,9 @@ pub struct Told {
 }
 
 impl EntryChange for Unmap {
-    ghost use Rattle.std.specs.Prelude.{None};
     ghost use Rattle.x86_64_c.specs.Calls as calls;
 
     type Out = Told;
-
-    ghost wrong = { λ _ levels. None };
 
     ghost makes = { λ _ h level page after told.
         calls.TellsUnmap h level page after told.status told.address };
@@ -252,14 +249,11 @@ pub struct FlagsOfPage {
 }
 
 impl EntryChange for FlagsOfPage {
-    ghost use Rattle.std.specs.Prelude.{None};
     ghost use Rattle.x86_64_c.specs.Calls as calls;
     ghost use Rattle.x86_64_model.specs.Call.{UpdateFlags};
     ghost use Rattle.x86_64_tables.specs.PageTableFlags.{bits_of};
 
     type Out = u32;
-
-    ghost wrong = { λ _ levels. None };
 
     ghost makes = { λ new h level page after status.
         calls.MayChange h (UpdateFlags level page (bits_of new.flags)) after status };

@@ -58,8 +58,6 @@ impl Operation for EntriesTo {
 
     ghost wrong = { λ to levels tables room. wrong_walk levels room to.address };
 
-    ghost may = { λ to h array. Unit {0} };
-
     ghost does = { λ to h array after left read.
         (after.memory ≡ h.memory) × WritesEntries (steps_walked h to.address) array (walk_end_status read.end)
         left read.count };

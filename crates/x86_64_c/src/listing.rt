@@ -110,8 +110,6 @@ impl Operation for Listing {
 
     ghost wrong = { λ new levels tables room. wrong_address levels new.from };
 
-    ghost may = { λ new h array. Unit {0} };
-
     ghost does = { λ new h array after left listed. let all = mappings_from_address h new.from in
         (after.memory ≡ h.memory) × WritesMappings all h.layout.levels array left listed.count
         × (listed.next ≡ next_of h.layout.levels (drop (length array) all)) };

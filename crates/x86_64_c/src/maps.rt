@@ -1,19 +1,15 @@
 //! Maps that are done or change nothing.
-ghost use Rattle.std.specs.Prelude.{◌≡◌, ◌≤◌, ℕ, List, length, None, Some, IfOk, IfErr, OnErr};
-ghost use Rattle.std.specs.FinMap.{len};
-ghost use Rattle.x86_64_c.specs.Arguments as given;
+ghost use Rattle.std.specs.Prelude.{ℕ, List};
 ghost use Rattle.x86_64_c.specs.PoolCalls as calls;
-ghost use Rattle.x86_64_c.specs.private.OrNothing.{RunsOrNothing};
-ghost use Rattle.x86_64_c.specs.private.Pools as pools;
 
-use crate::arguments::{AnyPage, Hierarchy, Located, MapRequest, frame_at, page_of};
-use crate::operation::{Operation, enter};
+use crate::arguments::{Hierarchy, Located, MapRequest, page_map};
+use crate::operation::enter;
+use crate::pool::pages::{PageOperation, PageStep};
 use crate::pool::{PoolStep, Stepped, with_pool};
 use crate::pool_calls::mapped_status;
 use crate::status;
-use bitflags::Flags;
 use x86_64::structures::paging::mapper::PageTableFrameMapping;
-use x86_64::structures::paging::{PageIn, PageSize, PageTable, PageTableFlags};
+use x86_64::structures::paging::{PageIn, PageSize, PageTable};
 use x86_64::{FrameStore, LevelCount, OwnFrames, TableMemory};
 use x86_64_live::{PageMap, map_or_nothing, may_map};
 
@@ -39,10 +35,11 @@ pub extern "C" fn x64_map(
     ensures { calls.ExecutesOrNothing own hierarchy.now (calls.loan tables.old pool.old free_count.old)
         (calls.to_map request.now) result (calls.loan tables.new pool.new free_count.new) }
 {
-    let map = WholeMap {
-        request,
+    let map = PageOperation {
+        page: &request.page,
         free_count: *free_count,
         own: OwnFrames::of(),
+        step: WholeMap { request },
     };
     match enter(hierarchy, tables, pool, &map) {
         Ok(mapped) => {
@@ -53,96 +50,45 @@ pub extern "C" fn x64_map(
     }
 }
 
-/// The map of a page that changes nothing if it is refused, with the number of free frames of the pool in the operation's array, and its
-/// own frames.
-#[derive(Drop)]
+/// The map of a page that changes nothing if it is refused.
+#[derive(Clone, Copy)]
 pub struct WholeMap<'a> {
     request: &'a MapRequest,
-    free_count: usize,
-    own: OwnFrames,
 }
 
-impl<'a> Operation for WholeMap<'a> {
-    ghost use Rattle.std.specs.Prelude.{length};
-    ghost use Rattle.x86_64_c.specs.PoolCalls.{bad_map, bad_pool, map_asked};
-    ghost use Rattle.x86_64_c.specs.private.OrNothing.{RunsOrNothing};
-    ghost use Rattle.x86_64_c.specs.private.Pools.{FitsIn};
+impl<'a> PageStep for WholeMap<'a> {
+    ghost use Rattle.x86_64_c.specs.Arguments.{wrong_frame};
+    ghost use Rattle.x86_64_c.specs.private.OrNothing.{RunsIfOk, is_refusal};
+    ghost use Rattle.x86_64_model.specs.Call.{MapToWithTableFlags};
 
-    type Out = Stepped<u32>;
+    ghost wrong = { λ map size. wrong_frame size map.request.now.frame };
 
-    type Entry = u64;
+    ghost refused = { is_refusal };
 
-    ghost wrong = { λ map levels tables room. bad_pool map.free_count room (bad_map levels map.request.now) };
+    ghost does = { λ map h pool level page after rest status. let asked = map.request.now in
+        RunsIfOk h pool (MapToWithTableFlags level page asked.frame asked.flags asked.parent_flags) after rest
+        status };
 
-    ghost may = { λ map h array. FitsIn map.own.frames h array map.free_count };
-
-    ghost does = { λ map h array after left mapped. RunsOrNothing map.own.frames h array map.free_count
-        (map_asked h.layout.levels map.request.now) after left mapped.free_count mapped.out };
-
-    fn execute<L: LevelCount, T: TableMemory, P: PageTableFrameMapping + Copy>(
-        &self,
-        memory: &mut T,
-        located: Located<P>,
-        array: &mut [u64],
-    ) -> Result<Stepped<u32>, u32> {
-        if array.len() < self.free_count {
-            return Err(status::BAD_ARRAY);
-        }
-        let page = page_of::<L>(&self.request.page)?;
-        match page {
-            AnyPage::Of4KiB(page) => self.map_page(memory, located, page, array),
-            AnyPage::Of2MiB(page) => self.map_page(memory, located, page, array),
-            AnyPage::Of1GiB(page) => self.map_page(memory, located, page, array),
-        }
-    }
-}
-
-impl<'a> WholeMap<'a> {
-    /// Maps the page to the frame of the request.
-    fn map_page<S: PageSize, L: LevelCount, T: TableMemory, P: PageTableFrameMapping + Copy>(
+    fn take<S: PageSize, L: LevelCount, T: TableMemory, P: PageTableFrameMapping + Copy>(
         &self,
         memory: &mut T,
         located: Located<P>,
         page: PageIn<S, L>,
+        own: &OwnFrames,
         array: &mut [u64],
-    ) -> Result<Stepped<u32>, u32>
-        requires in_array { self.now.free_count ≤ length array.old }
-        requires page { given.wrong_page L.LEVELS self.now.request.now.page ≡ None }
-        requires is_page { given.IsPageOf L.LEVELS self.now.request.now.page S.LEVEL page }
-        requires fits { calls.bad_map L.LEVELS self.now.request.now ≡ None
-            → pools.FitsIn self.now.own.frames (given.at P.places L.LEVELS located (T.tables memory.old))
-            array.old self.now.free_count }
-        ensures bad { IfErr result (λ status. calls.bad_map L.LEVELS self.now.request.now ≡ Some status) }
-        ensures unchanged { OnErr result ((T.tables memory.new ≡ T.tables memory.old)
-            × (array.new ≡ array.old)) }
-        ensures good { IfOk result (λ _. calls.bad_map L.LEVELS self.now.request.now ≡ None) }
-        ensures does { IfOk result (λ mapped. RunsOrNothing self.now.own.frames
-            (given.at P.places L.LEVELS located (T.tables memory.old)) array.old self.now.free_count
-            (calls.map_asked L.LEVELS self.now.request.now)
-            (given.at P.places L.LEVELS located (T.tables memory.new)) array.new mapped.free_count
-            mapped.out) }
-        ensures lent { T.lent memory.new ≡ T.lent memory.old }
-    {
-        let frame = frame_at::<S>(self.request.frame)?;
-        let map = PageMap {
-            page,
-            frame,
-            flags: PageTableFlags::from_bits_retain(self.request.flags),
-            parent_flags: PageTableFlags::from_bits_retain(self.request.parent_flags),
-        };
-        Ok(with_pool(memory, located, &self.own, array, self.free_count, &map))
+        free_count: usize,
+    ) -> Result<Stepped<u32>, u32> {
+        let map = page_map(self.request, page)?;
+        Ok(with_pool(memory, located, own, array, free_count, &map))
     }
 }
 
 impl<S: PageSize, L: LevelCount> PoolStep<L> for PageMap<S, L> {
-    ghost use Rattle.std.specs.Prelude.{false};
     ghost use Rattle.x86_64_c.specs.private.OrNothing.{RunsIfOk, is_refusal};
     ghost use Rattle.x86_64_c.specs.private.PoolLaws.{own_runs_if_ok};
     ghost use Rattle.x86_64_live.specs.MapsOrNothing.{call_for};
 
     type Out = u32;
-
-    ghost gives_root = { λ _. false };
 
     ghost refused = { is_refusal };
 

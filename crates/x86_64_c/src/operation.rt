@@ -1,5 +1,5 @@
 //! The way in, which each operation on the caller's tables shares
-ghost use Rattle.std.specs.Prelude.{◌≡◌, ℕ, true, List, length, Option, Some, None, IfOk, IfErr, OnErr};
+ghost use Rattle.std.specs.Prelude.{◌≡◌, ℕ, true, List, length, Option, Some, None, IfOk, IfErr, OnErr, ⊤};
 ghost use Rattle.std.specs.FinMap.{len};
 ghost use Rattle.x86_64_c.specs.Arguments as given;
 ghost use Rattle.x86_64_c.specs.private.Operations as operations;
@@ -25,8 +25,8 @@ pub trait Operation {
     /// What is wrong with the operation's own arguments, with these numbers of levels, of tables and of entries of the array.
     ghost wrong: { Self → (levels tables room : ℕ) → Option ℕ };
 
-    /// What must hold of a hierarchy and of the array.
-    ghost may: { Self → mapper.Hierarchy (Unit {0}) → (array : List Self.Entry) → Type 0 };
+    /// What must hold of a hierarchy and of the array, if anything.
+    ghost may: { Self → mapper.Hierarchy (Unit {0}) → (array : List Self.Entry) → Type 0 } = { λ _ _ _. ⊤ };
 
     /// What the operation does to them, and what it returns.
     ghost does: { Self → (before : mapper.Hierarchy (Unit {0})) → (array : List Self.Entry)

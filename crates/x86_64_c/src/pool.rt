@@ -1,5 +1,5 @@
 //! The way in with a pool: what each operation that takes frames from a pool or returns frames to it shares.
-ghost use Rattle.std.specs.Prelude.{◌≡◌, ◌≤◌, ℕ, Bool, List, true, length};
+ghost use Rattle.std.specs.Prelude.{◌≡◌, ◌≤◌, ℕ, Bool, List, true, false, length};
 ghost use Rattle.std.specs.Borrow.{GName};
 ghost use Rattle.x86_64_c.specs.Arguments as given;
 ghost use Rattle.x86_64_c.specs.private.Pools as pools;
@@ -7,6 +7,7 @@ ghost use Rattle.x86_64_model.specs.Hierarchy as mapper;
 ghost use Rattle.x86_64_model.specs.Store.{StoreFits, Store, store_of};
 ghost use Rattle.x86_64_tables.specs.LentPool.{is_in, served_by};
 
+pub mod pages;
 pub mod ranges;
 
 use crate::arguments::Located;
@@ -19,10 +20,10 @@ pub trait PoolStep<L: LevelCount> {
     type Out;
 
     /// Whether the store gets the root.
-    ghost gives_root: { Self → Bool };
+    ghost gives_root: { Self → Bool } = { λ _. false };
 
     /// Whether a result says that nothing changed.
-    ghost refused: { Self.Out → Bool };
+    ghost refused: { Self.Out → Bool } = { λ _. false };
 
     /// What the step does, and what it returns.
     ghost does: { Self → (before : mapper.Hierarchy (Unit {0})) → (store : Store)

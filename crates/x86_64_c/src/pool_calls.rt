@@ -1,27 +1,23 @@
 //! Maps as mappers make them, and clean ups.
-ghost use Rattle.std.specs.Prelude.{◌≡◌, ◌≤◌, ◌+◌, ℕ, List, length, None, Some, IfOk, IfErr, OnErr};
-ghost use Rattle.std.specs.FinMap.{len};
+ghost use Rattle.std.specs.Prelude.{◌≡◌, ◌+◌, ℕ, List};
 ghost use Rattle.x86_64_c.specs.Calls.{result_status};
-ghost use Rattle.x86_64_c.specs.Arguments as given;
 ghost use Rattle.x86_64_c.specs.PoolCalls as calls;
-ghost use Rattle.x86_64_c.specs.private.Pools as pools;
 ghost use Rattle.x86_64_tables.specs.MapperAnswers.{map_refusal};
 
 mod below_root;
 
-use crate::arguments::{AnyPage, Hierarchy, Located, MapRequest, frame_at, page_of};
-use crate::operation::{Operation, enter};
+use crate::arguments::{Hierarchy, Located, MapRequest, page_map};
+use crate::operation::enter;
+use crate::pool::pages::{PageOperation, PageStep};
 use crate::pool::ranges::{RangeOperation, RangeStep};
 use crate::pool::{PoolStep, Stepped, with_pool};
 use crate::status::{self, map_status};
-use bitflags::Flags;
 use x86_64::structures::paging::mapper::{
     MapToError, MappedPageTableIn, MapperFlushIn, PageTableFrameMapping,
 };
-use x86_64::structures::paging::{
-    PageIn, PageSize, PageTable, PageTableFlags, PhysFrame, Size4KiB,
-};
+use x86_64::structures::paging::{PageIn, PageSize, PageTable, Size4KiB};
 use x86_64::{FrameStore, LevelCount, OwnFrames, TableMemory};
+use x86_64_live::PageMap;
 use x86_64_mappers::calls as mapper_calls;
 use x86_64_page::range::BlockRangeInclusive;
 
@@ -47,10 +43,11 @@ pub extern "C" fn x64_map_as_mapper(
     ensures { calls.Executes own hierarchy.now (calls.loan tables.old pool.old free_count.old)
         (calls.to_map request.now) result (calls.loan tables.new pool.new free_count.new) }
 {
-    let map = Map {
-        request,
+    let map = PageOperation {
+        page: &request.page,
         free_count: *free_count,
         own: OwnFrames::of(),
+        step: Map { request },
     };
     match enter(hierarchy, tables, pool, &map) {
         Ok(mapped) => {
@@ -61,110 +58,52 @@ pub extern "C" fn x64_map_as_mapper(
     }
 }
 
-/// The map of a page, with the number of free frames of the pool in the operation's array, and its own frames.
-#[derive(Drop)]
+/// The map of a page as mappers make it.
+#[derive(Clone, Copy)]
 pub struct Map<'a> {
     request: &'a MapRequest,
-    free_count: usize,
-    own: OwnFrames,
 }
 
-impl<'a> Operation for Map<'a> {
-    ghost use Rattle.std.specs.Prelude.{length};
-    ghost use Rattle.x86_64_c.specs.PoolCalls.{RunsCall, bad_map, bad_pool, map_asked};
-    ghost use Rattle.x86_64_c.specs.private.Pools.{FitsIn, Leaves};
+impl<'a> PageStep for Map<'a> {
+    ghost use Rattle.x86_64_c.specs.Arguments.{wrong_frame};
+    ghost use Rattle.x86_64_c.specs.PoolCalls.{RunsCall};
+    ghost use Rattle.x86_64_model.specs.Call.{MapToWithTableFlags};
 
-    type Out = Stepped<u32>;
+    ghost wrong = { λ map size. wrong_frame size map.request.now.frame };
 
-    type Entry = u64;
+    ghost does = { λ map h pool level page after rest status. let asked = map.request.now in
+        RunsCall h pool (MapToWithTableFlags level page asked.frame asked.flags asked.parent_flags) after rest
+        status };
 
-    ghost wrong = { λ map levels tables room. bad_pool map.free_count room (bad_map levels map.request.now) };
-
-    ghost may = { λ map h array. FitsIn map.own.frames h array map.free_count };
-
-    ghost does = { λ map h array after left mapped.
-        Leaves map.own.frames array map.free_count left mapped.free_count
-        (λ pool rest. RunsCall h pool (map_asked h.layout.levels map.request.now) after rest mapped.out) };
-
-    fn execute<L: LevelCount, T: TableMemory, P: PageTableFrameMapping + Copy>(
-        &self,
-        memory: &mut T,
-        located: Located<P>,
-        array: &mut [u64],
-    ) -> Result<Stepped<u32>, u32> {
-        if array.len() < self.free_count {
-            return Err(status::BAD_ARRAY);
-        }
-        let page = page_of::<L>(&self.request.page)?;
-        match page {
-            AnyPage::Of4KiB(page) => self.map_page(memory, located, page, array),
-            AnyPage::Of2MiB(page) => self.map_page(memory, located, page, array),
-            AnyPage::Of1GiB(page) => self.map_page(memory, located, page, array),
-        }
-    }
-}
-
-impl<'a> Map<'a> {
-    /// Maps the page to the frame of the request.
-    fn map_page<S: PageSize, L: LevelCount, T: TableMemory, P: PageTableFrameMapping + Copy>(
+    fn take<S: PageSize, L: LevelCount, T: TableMemory, P: PageTableFrameMapping + Copy>(
         &self,
         memory: &mut T,
         located: Located<P>,
         page: PageIn<S, L>,
+        own: &OwnFrames,
         array: &mut [u64],
-    ) -> Result<Stepped<u32>, u32>
-        requires in_array { self.now.free_count ≤ length array.old }
-        requires page { given.wrong_page L.LEVELS self.now.request.now.page ≡ None }
-        requires is_page { given.IsPageOf L.LEVELS self.now.request.now.page S.LEVEL page }
-        requires fits { calls.bad_map L.LEVELS self.now.request.now ≡ None
-            → pools.FitsIn self.now.own.frames (given.at P.places L.LEVELS located (T.tables memory.old))
-            array.old self.now.free_count }
-        ensures bad { IfErr result (λ status. calls.bad_map L.LEVELS self.now.request.now ≡ Some status) }
-        ensures unchanged { OnErr result ((T.tables memory.new ≡ T.tables memory.old)
-            × (array.new ≡ array.old)) }
-        ensures good { IfOk result (λ _. calls.bad_map L.LEVELS self.now.request.now ≡ None) }
-        ensures does { IfOk result (λ mapped. pools.Leaves self.now.own.frames array.old self.now.free_count
-            array.new mapped.free_count (λ pool rest. calls.RunsCall
-            (given.at P.places L.LEVELS located (T.tables memory.old)) pool
-            (calls.map_asked L.LEVELS self.now.request.now)
-            (given.at P.places L.LEVELS located (T.tables memory.new)) rest mapped.out)) }
-        ensures lent { T.lent memory.new ≡ T.lent memory.old }
-    {
-        let frame = frame_at::<S>(self.request.frame)?;
-        let map = MapTo {
-            page,
-            frame,
-            flags: PageTableFlags::from_bits_retain(self.request.flags),
-            parent_flags: PageTableFlags::from_bits_retain(self.request.parent_flags),
-        };
-        Ok(with_pool(memory, located, &self.own, array, self.free_count, &map))
+        free_count: usize,
+    ) -> Result<Stepped<u32>, u32> {
+        let map = page_map(self.request, page)?;
+        Ok(with_pool(memory, located, own, array, free_count, &MapTo { map }))
     }
 }
 
 /// The map of a page to a frame.
 #[derive(Clone, Copy)]
 pub struct MapTo<S: PageSize, L: LevelCount> {
-    page: PageIn<S, L>,
-    frame: PhysFrame<S>,
-    flags: PageTableFlags,
-    parent_flags: PageTableFlags,
+    map: PageMap<S, L>,
 }
 
 impl<S: PageSize, L: LevelCount> PoolStep<L> for MapTo<S, L> {
-    ghost use Rattle.std.specs.Prelude.{false};
     ghost use Rattle.x86_64_c.specs.PoolCalls.{RunsCall};
     ghost use Rattle.x86_64_c.specs.private.PoolLaws.{own_runs};
-    ghost use Rattle.x86_64_model.specs.Call.{MapToWithTableFlags};
-    ghost use Rattle.x86_64_tables.specs.PageTableFlags.{bits_of};
+    ghost use Rattle.x86_64_live.specs.MapsOrNothing.{call_for};
 
     type Out = u32;
 
-    ghost gives_root = { λ _. false };
-
-    ghost refused = { λ _. false };
-
-    ghost does = { λ map h pool after rest status. RunsCall h pool (MapToWithTableFlags S.LEVEL
-        map.page map.frame (bits_of map.flags) (bits_of map.parent_flags)) after rest status };
+    ghost does = { λ to h pool after rest status.
+        RunsCall h pool (call_for S.LEVEL to.map) after rest status };
 
     fn take<T: TableMemory, P: PageTableFrameMapping + Copy, F: FrameStore>(
         &self,
@@ -174,15 +113,16 @@ impl<S: PageSize, L: LevelCount> PoolStep<L> for MapTo<S, L> {
         _free_count: usize,
     ) -> u32 {
         let mut mapper = MappedPageTableIn::<_, L, T>::new(memory, located.root, located.mapping);
-        if !mapper_calls::map_allowed(&mapper, self.page, self.flags, self.parent_flags) {
+        let map = self.map;
+        if !mapper_calls::map_allowed(&mapper, map.page, map.flags, map.parent_flags) {
             return status::NOT_ALLOWED;
         }
         let mapped = mapper_calls::map_to_with_table_flags(
             &mut mapper,
-            self.page,
-            self.frame,
-            self.flags,
-            self.parent_flags,
+            map.page,
+            map.frame,
+            map.flags,
+            map.parent_flags,
             frames,
         );
         mapped_status(mapped)

@@ -1,15 +1,13 @@
 //! Tables above a page
-ghost use Rattle.std.specs.Prelude.{◌≡◌, ◌≤◌, ℕ, List, length, None, Some, IfOk, IfErr, OnErr};
-ghost use Rattle.x86_64_c.specs.Arguments as given;
+ghost use Rattle.std.specs.Prelude.{◌≡◌, ℕ, List};
 ghost use Rattle.x86_64_c.specs.Calls.{result_status};
 ghost use Rattle.x86_64_c.specs.PoolCalls as calls;
 ghost use Rattle.x86_64_c.specs.Preparations as preparations;
-ghost use Rattle.x86_64_c.specs.private.Pools as pools;
-ghost use Rattle.x86_64_c.specs.private.PreparationSteps.{PreparesIn};
 ghost use Rattle.x86_64_tables.specs.MapperAnswers.{map_refusal};
 
-use crate::arguments::{AnyPage, Hierarchy, Located, Page, page_of};
-use crate::operation::{Operation, enter};
+use crate::arguments::{Hierarchy, Located, Page};
+use crate::operation::enter;
+use crate::pool::pages::{PageOperation, PageStep};
 use crate::pool::{PoolStep, Stepped, with_pool};
 use crate::status::{self, map_status};
 use bitflags::Flags;
@@ -42,11 +40,12 @@ pub extern "C" fn x64_prepare(
         (calls.loan tables.old pool.old free_count.old) page.now parent_flags result
         (calls.loan tables.new pool.new free_count.new) }
 {
-    let preparation = Preparation {
+    let parent_flags = PageTableFlags::from_bits_retain(parent_flags);
+    let preparation = PageOperation {
         page,
-        parent_flags,
         free_count: *free_count,
         own: OwnFrames::of(),
+        step: Preparation { parent_flags },
     };
     match enter(hierarchy, tables, pool, &preparation) {
         Ok(prepared) => {
@@ -57,77 +56,34 @@ pub extern "C" fn x64_prepare(
     }
 }
 
-/// The making of the tables above a page, with the number of free frames of the pool in the operation's array, and its own frames.
-#[derive(Drop)]
-pub struct Preparation<'a> {
-    page: &'a Page,
-    parent_flags: u64,
-    free_count: usize,
-    own: OwnFrames,
+/// The making of the tables above a page, which get these flags.
+#[derive(Clone, Copy)]
+pub struct Preparation {
+    parent_flags: PageTableFlags,
 }
 
-impl<'a> Operation for Preparation<'a> {
-    ghost use Rattle.x86_64_c.specs.Arguments.{level_of_page_size, position_of, wrong_page};
-    ghost use Rattle.x86_64_c.specs.PoolCalls.{bad_pool};
-    ghost use Rattle.x86_64_c.specs.private.Pools.{FitsIn};
-    ghost use Rattle.x86_64_c.specs.private.PreparationSteps.{PreparesIn};
+impl PageStep for Preparation {
+    ghost use Rattle.x86_64_c.specs.Preparations.{PreparesPage};
+    ghost use Rattle.x86_64_c.specs.private.OrNothing.{is_refusal};
+    ghost use Rattle.x86_64_tables.specs.PageTableFlags.{bits_of};
 
-    type Out = Stepped<u32>;
+    ghost refused = { is_refusal };
 
-    type Entry = u64;
+    ghost does = { λ new h pool level page after rest status.
+        PreparesPage h pool level page (bits_of new.parent_flags) after rest status };
 
-    ghost wrong = { λ new levels tables room. bad_pool new.free_count room (wrong_page levels new.page.now) };
-
-    ghost may = { λ new h array. FitsIn new.own.frames h array new.free_count };
-
-    ghost does = { λ new h array after left prepared. PreparesIn new.own.frames h array new.free_count
-        (level_of_page_size new.page.now.size) (position_of h.layout.levels new.page.now.start)
-        new.parent_flags after left prepared.free_count prepared.out };
-
-    fn execute<L: LevelCount, T: TableMemory, P: PageTableFrameMapping + Copy>(
-        &self,
-        memory: &mut T,
-        located: Located<P>,
-        array: &mut [u64],
-    ) -> Result<Stepped<u32>, u32> {
-        if array.len() < self.free_count {
-            return Err(status::BAD_ARRAY);
-        }
-        let page = page_of::<L>(self.page)?;
-        Ok(match page {
-            AnyPage::Of4KiB(page) => self.prepare_page(memory, located, page, array),
-            AnyPage::Of2MiB(page) => self.prepare_page(memory, located, page, array),
-            AnyPage::Of1GiB(page) => self.prepare_page(memory, located, page, array),
-        })
-    }
-}
-
-impl<'a> Preparation<'a> {
-    /// Makes the tables above the page.
-    fn prepare_page<S: PageSize, L: LevelCount, T: TableMemory, P: PageTableFrameMapping + Copy>(
+    fn take<S: PageSize, L: LevelCount, T: TableMemory, P: PageTableFrameMapping + Copy>(
         &self,
         memory: &mut T,
         located: Located<P>,
         page: PageIn<S, L>,
+        own: &OwnFrames,
         array: &mut [u64],
-    ) -> Stepped<u32>
-        requires in_array { self.now.free_count ≤ length array.old }
-        requires is_page { given.IsPageOf L.LEVELS self.now.page.now S.LEVEL page }
-        requires fits { pools.FitsIn self.now.own.frames
-            (given.at P.places L.LEVELS located (T.tables memory.old)) array.old self.now.free_count }
-        ensures prepares { PreparesIn self.now.own.frames
-            (given.at P.places L.LEVELS located (T.tables memory.old)) array.old self.now.free_count
-            (given.level_of_page_size self.now.page.now.size)
-            (given.position_of L.LEVELS self.now.page.now.start) self.now.parent_flags
-            (given.at P.places L.LEVELS located (T.tables memory.new)) array.new result.free_count
-            result.out }
-        ensures lent { T.lent memory.new ≡ T.lent memory.old }
-    {
-        let tables = TablesAbove {
-            page,
-            parent_flags: PageTableFlags::from_bits_retain(self.parent_flags),
-        };
-        with_pool(memory, located, &self.own, array, self.free_count, &tables)
+        free_count: usize,
+    ) -> Result<Stepped<u32>, u32> {
+        let parent_flags = self.parent_flags;
+        let tables = TablesAbove { page, parent_flags };
+        Ok(with_pool(memory, located, own, array, free_count, &tables))
     }
 }
 
@@ -139,15 +95,12 @@ pub struct TablesAbove<S: PageSize, L: LevelCount> {
 }
 
 impl<S: PageSize, L: LevelCount> PoolStep<L> for TablesAbove<S, L> {
-    ghost use Rattle.std.specs.Prelude.{false};
     ghost use Rattle.x86_64_c.specs.Preparations.{PreparesPage};
     ghost use Rattle.x86_64_c.specs.private.OrNothing.{is_refusal};
     ghost use Rattle.x86_64_c.specs.private.PoolLaws.{own_prepares};
     ghost use Rattle.x86_64_tables.specs.PageTableFlags.{bits_of};
 
     type Out = u32;
-
-    ghost gives_root = { λ _. false };
 
     ghost refused = { is_refusal };
 

@@ -1,5 +1,5 @@
 //! Calls on ranges of pages of one size: maps, unmaps and changes of flags.
-ghost use Rattle.std.specs.Prelude.{◌≡◌, ◌≤◌, ◌+◌, ◌-◌, ◌*◌, ℕ, List, nat_le, length, fold, Some, None, IfOk, IfErr, OnErr};
+ghost use Rattle.std.specs.Prelude.{◌≡◌, ◌≤◌, ◌-◌, ◌*◌, ℕ, List, nat_le, length, Some, None, IfOk, IfErr, OnErr};
 ghost use Rattle.x86_64_c.specs.Calls.{result_status};
 ghost use Rattle.x86_64_c.specs.Arguments as given;
 ghost use Rattle.x86_64_c.specs.PoolCalls.{loan};
@@ -7,7 +7,6 @@ ghost use Rattle.x86_64_c.specs.Ranges as ranges;
 ghost use Rattle.x86_64_c.specs.private.Pools as pools;
 ghost use Rattle.x86_64_c.specs.private.RangeMaps as maps;
 ghost use Rattle.x86_64_model.specs.Hierarchy.{Valid};
-ghost use Rattle.x86_64_model.specs.Position.{position_count, span};
 ghost use Rattle.x86_64_tables.specs.MapperAnswers.{map_refusal};
 ghost use Rattle.x86_64_tables.specs.PageTableFlags.{bits_of};
 
@@ -57,9 +56,6 @@ fn bytes_in_half<L: LevelCount>(address: u64) -> u64
 fn first_page<L: LevelCount>(page: &Page, count: u64) -> Result<AnyPage<L>, u32>
     ensures page { IfOk result (λ any.
         given.IsPageOf L.LEVELS page.now (given.any_level any) (given.any_position any)) }
-    ensures size { IfOk result (λ any. page.now.size ≡ span (given.any_level any)) }
-    ensures there { IfOk result (λ any.
-        given.any_position any + count * span (given.any_level any) ≤ position_count L.LEVELS) }
     ensures good { IfOk result (λ _. ranges.bad_pages L.LEVELS page.now count ≡ None) }
     ensures bad { IfErr result (λ status. ranges.bad_pages L.LEVELS page.now count ≡ Some status) }
 {
@@ -193,7 +189,6 @@ impl<'a> MapFrom<'a> {
     ) -> Result<Stepped<Mapped>, u32>
         requires in_array { self.now.free_count ≤ length array.old }
         requires pages { ranges.bad_pages L.LEVELS self.now.request.now.page self.now.count ≡ None }
-        requires size { self.now.request.now.page.size ≡ span S.LEVEL }
         requires is_page { given.IsPageOf L.LEVELS self.now.request.now.page S.LEVEL page }
         requires fits { ranges.bad_maps L.LEVELS self.now.request.now self.now.count ≡ None
             → pools.FitsIn self.now.own.frames (given.at P.places L.LEVELS located (T.tables memory.old))
@@ -234,14 +229,11 @@ pub struct RangeMap<S: PageSize, L: LevelCount> {
 }
 
 impl<S: PageSize, L: LevelCount> PoolStep<L> for RangeMap<S, L> {
-    ghost use Rattle.std.specs.Prelude.{false};
     ghost use Rattle.x86_64_c.specs.Ranges.{range_of_request};
     ghost use Rattle.x86_64_c.specs.private.PoolLaws.{own_tells};
     ghost use Rattle.x86_64_c.specs.private.RangeMaps.{TellsMaps, is_without_number};
 
     type Out = Mapped;
-
-    ghost gives_root = { λ _. false };
 
     ghost refused = { λ mapped. is_without_number mapped.done };
 
@@ -419,35 +411,40 @@ impl<'a> Operation for UnmapFrom<'a> {
     ) -> Result<Unmapped, u32> {
         let page = first_page::<L>(self.first, self.count)?;
         Ok(match page {
-            AnyPage::Of4KiB(page) => unmap_pages(memory, located, page, self.count, array),
-            AnyPage::Of2MiB(page) => unmap_pages(memory, located, page, self.count, array),
-            AnyPage::Of1GiB(page) => unmap_pages(memory, located, page, self.count, array),
+            AnyPage::Of4KiB(page) => self.unmap_pages(memory, located, page, array),
+            AnyPage::Of2MiB(page) => self.unmap_pages(memory, located, page, array),
+            AnyPage::Of1GiB(page) => self.unmap_pages(memory, located, page, array),
         })
     }
 }
 
-/// Unmaps a number of pages of a size.
-fn unmap_pages<S: PageSize, L: LevelCount, T: TableMemory, P: PageTableFrameMapping + Copy>(
-    memory: &mut T,
-    located: Located<P>,
-    page: PageIn<S, L>,
-    count: u64,
-    frames: &mut [u64],
-) -> Unmapped
-    requires valid { Valid (given.at P.places L.LEVELS located (T.tables memory.old)) }
-    requires there { page + count * span S.LEVEL ≤ position_count L.LEVELS }
-    ensures unmaps { ranges.UnmapsRange (given.at P.places L.LEVELS located (T.tables memory.old)) S.LEVEL page
-        count frames.old (given.at P.places L.LEVELS located (T.tables memory.new))
-        (ranges.end_status result.done count) frames.new result.frame_count result.done }
-    ensures lent { T.lent memory.new ≡ T.lent memory.old }
-{
-    let most = count.min(frames.len() as u64);
-    let mut mapper = MappedPageTableIn::<_, L, T>::new(memory, located.root, located.mapping);
-    let mut sink = FrameArray { frames, count: 0 };
-    calls::unmap_range(&mut mapper, page, most, &mut sink).ignore();
-    Unmapped {
-        frame_count: sink.count,
-        done: most,
+impl<'a> UnmapFrom<'a> {
+    /// Unmaps the pages from a page on.
+    fn unmap_pages<S: PageSize, L: LevelCount, T: TableMemory, P: PageTableFrameMapping + Copy>(
+        &self,
+        memory: &mut T,
+        located: Located<P>,
+        page: PageIn<S, L>,
+        frames: &mut [u64],
+    ) -> Unmapped
+        requires valid { Valid (given.at P.places L.LEVELS located (T.tables memory.old)) }
+        requires pages { ranges.bad_pages L.LEVELS self.now.first.now self.now.count ≡ None }
+        requires is_page { given.IsPageOf L.LEVELS self.now.first.now S.LEVEL page }
+        ensures unmaps { ranges.UnmapsRange (given.at P.places L.LEVELS located (T.tables memory.old))
+            (given.level_of_page_size self.now.first.now.size)
+            (given.position_of L.LEVELS self.now.first.now.start) self.now.count frames.old
+            (given.at P.places L.LEVELS located (T.tables memory.new))
+            (ranges.end_status result.done self.now.count) frames.new result.frame_count result.done }
+        ensures lent { T.lent memory.new ≡ T.lent memory.old }
+    {
+        let most = self.count.min(frames.len() as u64);
+        let mut mapper = MappedPageTableIn::<_, L, T>::new(memory, located.root, located.mapping);
+        let mut sink = FrameArray { frames, count: 0 };
+        calls::unmap_range(&mut mapper, page, most, &mut sink).ignore();
+        Unmapped {
+            frame_count: sink.count,
+            done: most,
+        }
     }
 }
 
@@ -541,32 +538,36 @@ impl<'a> Operation for UpdateFrom<'a> {
     ) -> Result<Option<u64>, u32> {
         let page = first_page::<L>(self.first, self.count)?;
         Ok(match page {
-            AnyPage::Of4KiB(page) => update_pages(memory, located, page, self.count, self.flags),
-            AnyPage::Of2MiB(page) => update_pages(memory, located, page, self.count, self.flags),
-            AnyPage::Of1GiB(page) => update_pages(memory, located, page, self.count, self.flags),
+            AnyPage::Of4KiB(page) => self.update_pages(memory, located, page),
+            AnyPage::Of2MiB(page) => self.update_pages(memory, located, page),
+            AnyPage::Of1GiB(page) => self.update_pages(memory, located, page),
         })
     }
 }
 
-/// Sets the flags of a number of pages of a size, and returns how many were changed, or `None` if the flags have address bits.
-fn update_pages<S: PageSize, L: LevelCount, T: TableMemory, P: PageTableFrameMapping + Copy>(
-    memory: &mut T,
-    located: Located<P>,
-    page: PageIn<S, L>,
-    count: u64,
-    flags: PageTableFlags,
-) -> Option<u64>
-    requires valid { Valid (given.at P.places L.LEVELS located (T.tables memory.old)) }
-    requires there { page + count * span S.LEVEL ≤ position_count L.LEVELS }
-    ensures updates { maps.TellsUpdates (given.at P.places L.LEVELS located (T.tables memory.old)) S.LEVEL
-        page (bits_of flags) count (given.at P.places L.LEVELS located (T.tables memory.new)) result }
-    ensures lent { T.lent memory.new ≡ T.lent memory.old }
-{
-    if flags.has_address_bits() {
-        return None;
+impl<'a> UpdateFrom<'a> {
+    /// Sets the flags of the pages from a page on, and returns how many were changed, or `None` if the flags have address bits.
+    fn update_pages<S: PageSize, L: LevelCount, T: TableMemory, P: PageTableFrameMapping + Copy>(
+        &self,
+        memory: &mut T,
+        located: Located<P>,
+        page: PageIn<S, L>,
+    ) -> Option<u64>
+        requires valid { Valid (given.at P.places L.LEVELS located (T.tables memory.old)) }
+        requires pages { ranges.bad_pages L.LEVELS self.now.first.now self.now.count ≡ None }
+        requires is_page { given.IsPageOf L.LEVELS self.now.first.now S.LEVEL page }
+        ensures updates { maps.TellsUpdates (given.at P.places L.LEVELS located (T.tables memory.old))
+            (given.level_of_page_size self.now.first.now.size)
+            (given.position_of L.LEVELS self.now.first.now.start) (bits_of self.now.flags) self.now.count
+            (given.at P.places L.LEVELS located (T.tables memory.new)) result }
+        ensures lent { T.lent memory.new ≡ T.lent memory.old }
+    {
+        if self.flags.has_address_bits() {
+            return None;
+        }
+        let mut mapper = MappedPageTableIn::<_, L, T>::new(memory, located.root, located.mapping);
+        let (number, flush) = calls::update_flags_range(&mut mapper, page, self.count, self.flags);
+        flush.ignore();
+        Some(number)
     }
-    let mut mapper = MappedPageTableIn::<_, L, T>::new(memory, located.root, located.mapping);
-    let (number, flush) = calls::update_flags_range(&mut mapper, page, count, flags);
-    flush.ignore();
-    Some(number)
 }

@@ -1,5 +1,5 @@
 //! Calls that read at an address: page walk and translation.
-ghost use Rattle.std.specs.Prelude.{◌≡◌, ℕ, length, option_map, Some, None};
+ghost use Rattle.std.specs.Prelude.{◌≡◌, ℕ, length, Some, None};
 ghost use Rattle.x86_64_c.specs.Arguments as given;
 ghost use Rattle.x86_64_c.specs.Reads as reads;
 ghost use Rattle.x86_64_model.specs.Hierarchy.{Valid};
@@ -96,8 +96,6 @@ impl Operation for PageWalk {
     type Entry = u64;
 
     ghost wrong = { λ walk levels tables room. wrong_address levels walk.address };
-
-    ghost may = { λ walk h array. Unit {0} };
 
     ghost does = { λ walk h array after left found. (after.memory ≡ h.memory)
         × (found ≡ walked_to h walk.address) };

@@ -63,8 +63,6 @@ impl Operation for IsValid {
 
     ghost wrong = { λ _ levels tables room. bad_marks tables room };
 
-    ghost may = { λ _ h array. Unit {0} };
-
     ghost does = { λ _ h array after left passed. (after.memory ≡ h.memory) × (IsTrue passed ↔ Valid h) };
 
     fn execute<L: LevelCount, T: TableMemory, P: PageTableFrameMapping + Copy>(
@@ -129,8 +127,6 @@ impl<'a> Operation for PoolFits<'a> {
     type Entry = bool;
 
     ghost wrong = { λ test levels tables room. bad_room test.free_count (length test.pool.now) tables room };
-
-    ghost may = { λ _ h array. Unit {0} };
 
     ghost does = { λ test h array after left passed.
         (after.memory ≡ h.memory) × (IsTrue passed ↔ FitsArray h test.pool.now test.free_count) };

@@ -82,8 +82,6 @@ impl Operation for Walk {
 
     ghost wrong = { λ walk levels tables room. wrong_address levels walk.address };
 
-    ghost may = { λ walk h array. Unit {0} };
-
     ghost does = { λ walk h array after left found. (after.memory ≡ h.memory)
         × (found ≡ result_walked h walk.address) };
 

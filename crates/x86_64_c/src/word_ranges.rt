@@ -118,7 +118,7 @@ pub extern "C" fn x64_change_range(
     let change = WordRange {
         first,
         last,
-        task: RangeTask::Change(keep, set),
+        task: RangeTask::Change { keep, set },
     };
     let told = enter(hierarchy, tables, pages, &change);
     tell(told, count, next)
@@ -186,8 +186,8 @@ pub enum RangeTask {
     Tell,
     /// Their entries become 0.
     Take,
-    /// Their words keep the first bits, and get the second ones.
-    Change(u64, u64),
+    /// Their words keep the bits in `keep`, and get those in `set`.
+    Change { keep: u64, set: u64 },
 }
 
 /// A task on the pages of a range.
@@ -230,7 +230,7 @@ impl Operation for WordRange {
                 let seen = take_range(memory, &mapping, root, range, array);
                 Ok(Ended::of(&seen))
             }
-            RangeTask::Change(keep, set) => {
+            RangeTask::Change { keep, set } => {
                 if !are_flag_masks(keep, set) {
                     return Err(status::NOT_ALLOWED);
                 }

@@ -1,11 +1,10 @@
 -- Calls that change nothing if they are refused.
-use Rattle.std.specs.Prelude.{◌≡◌, ℕ, ◌==◌, not, Bool, true, List, Some}
+use Rattle.std.specs.Prelude.{◌≡◌, ℕ, ◌==◌, not, Bool, Some}
 use Rattle.x86_64_model.specs.Call.{Call}
 use Rattle.x86_64_model.specs.Hierarchy.{Hierarchy}
 use Rattle.x86_64_model.specs.Store.{Store}
 use Rattle.x86_64_c.specs.PoolCalls.{RunsCall, machine_status}
 use Rattle.x86_64_c.specs.Status.{ok}
-use Rattle.x86_64_c.specs.private.Pools.{Leaves}
 
 -- Whether a status isn't OK.
 abbrev pub is_refusal : (status : ℕ) → Bool
@@ -15,9 +14,3 @@ is_refusal s = not (s == ok)
 pub record RunsIfOk (h : Hierarchy (Unit {0})) (pool : Store) (call : Call) (after : Hierarchy (Unit {0})) (rest : Store) (status : ℕ) : Type 0 where
   pub status_is : Some status ≡ machine_status h pool call
   pub done : status ≡ ok → RunsCall h pool call after rest status
-
--- A call with the pool in an array returned the status of the machine's reply. If it is OK, the call was executed as the machine does
--- it. Otherwise no table and no entry of the array changed, and as many frames are free as before.
-abbrev pub RunsOrNothing : (own : List ℕ) (h : Hierarchy (Unit {0})) (array : List ℕ) (free : ℕ) (call : Call) (after : Hierarchy (Unit {0})) (left : List ℕ) (number status : ℕ) → Type 0
-RunsOrNothing own h array free call after left number s = Leaves own array free left number (λ pool rest. RunsIfOk h pool call after rest s)
-    × (is_refusal s ≡ true → (after.memory ≡ h.memory) × (left ≡ array) × (number ≡ free))

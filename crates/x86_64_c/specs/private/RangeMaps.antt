@@ -7,7 +7,7 @@ use Rattle.x86_64_mappers.specs.Ranges.{MapRange}
 use Rattle.x86_64_c.specs.Ranges.{Maps, MayMapPages, Updates}
 use Rattle.x86_64_c.specs.Status.{ok, not_allowed}
 use Rattle.x86_64_c.specs.declared.ranges.Mapped.{Mapped}
-use Rattle.x86_64_c.specs.private.Pools.{Leaves}
+use Rattle.x86_64_c.specs.private.Pools.{TakesStep}
 
 -- Whether there is no number.
 abbrev pub is_without_number : Option ℕ → Bool
@@ -23,8 +23,7 @@ TellsMaps h pool r count after rest mapped = ((MayMapPages h r count → ⊥) �
 -- So many pages of a range are mapped with the pool in an array, or the maps are refused. If no number of mapped pages is told, no
 -- table, no entry of the array and not the number of free frames changed.
 abbrev pub MapsInPool : (own : List ℕ) (r : MapRange) (count : ℕ) (h : Hierarchy (Unit {0})) (array : List ℕ) (free : ℕ) (after : Hierarchy (Unit {0})) (left : List ℕ) (number : ℕ) → Mapped → Type 0
-MapsInPool own r count h array free after left number mapped = Leaves own array free left number (λ pool rest. TellsMaps h pool r count after rest mapped)
-    × (is_without_number mapped.done ≡ true → (after.memory ≡ h.memory) × (left ≡ array) × (number ≡ free))
+MapsInPool own r count h array free after left number mapped = TakesStep own h array free (λ pool rest. TellsMaps h pool r count after rest mapped) (is_without_number mapped.done) after left number
 
 -- Changes of flags of so many pages are refused as not allowed and change nothing, or they are allowed and made, and the number of
 -- changed entries is told.

@@ -110,13 +110,7 @@ pub struct StepOn<R, L: LevelCount> {
 }
 
 impl<L: LevelCount, R: RangeStep> PoolStep<L> for StepOn<R, L> {
-    ghost use Rattle.std.specs.Prelude.{false};
-
     type Out = R::Out;
-
-    ghost gives_root = { λ _. false };
-
-    ghost refused = { λ _. false };
 
     ghost does = { λ on h pool after rest out. R.does h pool on.range.start on.range.end after rest out };
 

@@ -11,16 +11,16 @@ pub returns-then-not-map_allowed-clause-does : goal.returns-then-not-map_allowed
 returns-then-not-map_allowed-clause-does g c =
     let l = direct_at g.L.LevelCount.LEVELS (g.P.PageTableFrameMapping.places c.args.located.mapping) c.args.located.root in
     let level = g.S.PageSize.LEVEL in
-    let map = MapToWithTableFlags level c.args.self.now.page c.args.self.now.frame (bits_of c.args.self.now.flags) (bits_of c.args.self.now.parent_flags) in
-    refused c.args.self.now.page c.args.self.now.frame (bits_of c.args.self.now.flags) (bits_of c.args.self.now.parent_flags) l _ (g.T.TableMemory.tables c.args.memory.now) c.requires.fits level
+    let map = MapToWithTableFlags level c.args.self.now.map.page c.args.self.now.map.frame (bits_of c.args.self.now.map.flags) (bits_of c.args.self.now.map.parent_flags) in
+    refused c.args.self.now.map.page c.args.self.now.map.frame (bits_of c.args.self.now.map.flags) (bits_of c.args.self.now.map.parent_flags) l _ (g.T.TableMemory.tables c.args.memory.now) c.requires.fits level
     (sym (seen_allows _ l _ _ c.new-mapper.ensures.layout c.new-mapper.ensures.memory map) ∙ sym c.map_allowed.ensures ∙ c.if-not-map_allowed.true) _ (search rules)
 
 pub returns-clause-does : goal.returns-clause-does
 returns-clause-does g c =
     let l = direct_at g.L.LevelCount.LEVELS (g.P.PageTableFrameMapping.places c.args.located.mapping) c.args.located.root in
     let level = g.S.PageSize.LEVEL in
-    let map = MapToWithTableFlags level c.args.self.now.page c.args.self.now.frame (bits_of c.args.self.now.flags) (bits_of c.args.self.now.parent_flags) in
-    mapped c.args.self.now.page c.args.self.now.frame (bits_of c.args.self.now.flags) (bits_of c.args.self.now.parent_flags) l _ (g.T.TableMemory.tables c.args.memory.now) _ c.map_to_with_table_flags-mapped.ensures.does.serves _ _ g.L.LevelCount.at_least_four plain
+    let map = MapToWithTableFlags level c.args.self.now.map.page c.args.self.now.map.frame (bits_of c.args.self.now.map.flags) (bits_of c.args.self.now.map.parent_flags) in
+    mapped c.args.self.now.map.page c.args.self.now.map.frame (bits_of c.args.self.now.map.flags) (bits_of c.args.self.now.map.parent_flags) l _ (g.T.TableMemory.tables c.args.memory.now) _ c.map_to_with_table_flags-mapped.ensures.does.serves _ _ g.L.LevelCount.at_least_four plain
     (giving_from _ g.met.F.FrameDeallocator.take_back_rearranges) (g.met.P.PageTableFrameMapping.is_mapping c.args.located.mapping) c.requires.fits c.map_to_with_table_flags-mapped.result c.map_to_with_table_flags-mapped.ensures.page c.mapped_status.ensures
     level g.S.PageSize.low g.S.PageSize.high
     (map_did _ _ l _ _ c.new-mapper.ensures.layout c.new-mapper.ensures.memory (search rules) _ map _ _ c.map_to_with_table_flags-mapped.ensures.does.map)
