@@ -2,8 +2,8 @@
 
 use crate::test_reference::entries::PathEntries;
 use crate::test_reference::machine::PlainMachine;
-use crate::test_reference::plain_calls::PlainCall;
-use crate::test_reference::positions::{front_at, is_small, level_of, lower_half, path_at};
+use crate::test_reference::plain_calls::{PlainCall, PlainPage};
+use crate::test_reference::positions::{front_at, is_small, level_of, lower_half};
 use crate::test_reference::windows::{begins_with, entry_at, first_stop};
 use crate::test_reference::words::{is_huge, is_present, is_used, no_address, parent_part};
 use x86_64_paging::support::AllocError;
@@ -79,27 +79,28 @@ impl PlainMachine {
         let levels = self.levels;
         match *call {
             PlainCall::MapTo { page, flags, .. } => {
-                let path = path_at(levels, page.level, page.position)?;
+                let path = page.path(levels)?;
                 Ok(self.map_to_allowed(paths, &path, flags))
             }
             PlainCall::MapToWithTableFlags { page, flags, parent_flags, .. } => {
-                let path = path_at(levels, page.level, page.position)?;
+                let path = page.path(levels)?;
                 Ok(self.map_allowed(paths, &path, flags, parent_flags))
             }
             PlainCall::IdentityMap { level, frame, flags } => {
-                let path = path_at(levels, level, frame)?;
+                let position = frame;
+                let path = PlainPage { level, position }.path(levels)?;
                 Ok((frame < lower_half(levels)) & self.map_to_allowed(paths, &path, flags))
             }
             PlainCall::Unmap { page } => {
-                let path = path_at(levels, page.level, page.position)?;
+                let path = page.path(levels)?;
                 Ok(!begins_with(self.window, &path))
             }
             PlainCall::UpdateFlags { page, flags } => {
-                let path = path_at(levels, page.level, page.position)?;
+                let path = page.path(levels)?;
                 Ok(no_address(flags) & !begins_with(self.window, &path))
             }
             PlainCall::SetFlags { level, page, flags } => {
-                let path = path_at(levels, page.level, page.position)?;
+                let path = page.path(levels)?;
                 Ok(self.is_set_flags_allowed(paths, level, &path, flags))
             }
             PlainCall::TranslatePage { .. }

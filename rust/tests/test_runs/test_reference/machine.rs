@@ -6,7 +6,6 @@ use x86_64_paging::support::Vec;
 use crate::test_reference::cleaning::CleanUpRange;
 use crate::test_reference::entries::PathEntries;
 use crate::test_reference::plain_calls::{PlainCall, PlainPage, PlainReply, Translated};
-use crate::test_reference::positions::path_at;
 use crate::test_reference::translations::translate;
 use crate::test_reference::windows::PlainWindow;
 use crate::test_reference::words::parent_part;
@@ -64,7 +63,7 @@ impl PlainMachine {
         flags: u64,
         parent_flags: u64,
     ) -> Result<PlainReply, AllocError> {
-        let path = path_at(self.levels, page.level, page.position)?;
+        let path = page.path(self.levels)?;
         let (paths, pool) = (&mut state.paths, &mut state.pool);
         let answer = self.map_call(paths, pool, &path, frame, flags, parent_flags)?;
         Ok(PlainReply::Answered(answer))
@@ -91,19 +90,19 @@ impl PlainMachine {
                 self.map(state, PlainPage { level, position }, frame, flags, parent_part(flags))
             }
             PlainCall::Unmap { page } => {
-                let path = path_at(levels, page.level, page.position)?;
+                let path = page.path(levels)?;
                 Ok(PlainReply::Answered(self.unmap(&mut state.paths, &path)?))
             }
             PlainCall::UpdateFlags { page, flags } => {
-                let path = path_at(levels, page.level, page.position)?;
+                let path = page.path(levels)?;
                 Ok(PlainReply::Answered(self.update_flags(&mut state.paths, &path, flags)?))
             }
             PlainCall::SetFlags { level, page, flags } => {
-                let path = path_at(levels, page.level, page.position)?;
+                let path = page.path(levels)?;
                 Ok(PlainReply::Answered(self.set_flags(&mut state.paths, level, &path, flags)?))
             }
             PlainCall::TranslatePage { page } => {
-                let path = path_at(levels, page.level, page.position)?;
+                let path = page.path(levels)?;
                 Ok(PlainReply::Answered(self.translate_page(&state.paths, &path)))
             }
             PlainCall::Translate { position } => Ok(PlainReply::Position(self.translate(&state.paths, position)?)),

@@ -1,5 +1,11 @@
 //! Calls, replies and refusals.
 
+use crate::more::MoreOfVec;
+use x86_64_paging::support::Vec;
+
+use crate::test_reference::positions::page_path;
+use x86_64_paging::support::AllocError;
+
 /// The reason why a call on a page is refused.
 #[derive(Clone, Copy, Debug, PartialEq, Eq)]
 pub enum Refusal {
@@ -40,6 +46,19 @@ pub struct PlainPage {
     pub level: usize,
     /// The position of its start.
     pub position: u64,
+}
+
+impl PlainPage {
+    /// Returns the path of the entry that maps it, with this many levels.
+    ///
+    /// # Errors
+    ///
+    /// `AllocError` if memory allocation fails.
+    pub fn path(self, levels: usize) -> Result<Vec<u64>, AllocError> {
+        let mut path = page_path(levels, self.position)?;
+        path.truncate((levels + 1).saturating_sub(self.level));
+        Ok(path)
+    }
 }
 
 /// A call. A frame is named by its address.

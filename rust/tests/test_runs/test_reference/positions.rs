@@ -30,13 +30,6 @@ pub fn page_path(level: usize, position: u64) -> Result<Vec<u64>, AllocError> {
     Ok(path)
 }
 
-/// Returns the path of the entry of a level at a position.
-pub fn path_at(levels: usize, level: usize, position: u64) -> Result<Vec<u64>, AllocError> {
-    let mut path = page_path(levels, position)?;
-    path.truncate((levels + 1).saturating_sub(level));
-    Ok(path)
-}
-
 /// Returns true if the entry at a path is of level one.
 pub fn is_small(levels: usize, path: &[u64]) -> bool {
     path.len() == levels
