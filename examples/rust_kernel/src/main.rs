@@ -3,6 +3,8 @@
 #![no_std]
 #![no_main]
 
+// The heap is of four levels alone.
+#[cfg(not(feature = "five_levels"))]
 extern crate alloc;
 
 #[cfg(not(feature = "five_levels"))]
