@@ -13,12 +13,23 @@ from items import ATTRIBUTES, Items
 from output import rewritten, rust, with_use
 
 CRATE = "x86_64_paging"
-# The crates of tests, each with those that it needs beside the library.
+# The tests, of which each is a crate of tests here or written by hand, with the crates that they need beside the library.
 TESTS = {"test_tables": [], "test_mappers": ["uses"], "test_runs": ["test_reference", "pagetab_engine"]}
 # The modules of a crate of callers that tests call, and those that implement traits. The others are left out.
-WANTED = {"uses": Rules({"list_mappings", "processes", "run_in_space", "guest_store", "own_allocator", "own_memory"})}
-# Modules that are written by hand, by the tests to which they belong.
-BY_HAND = {"test_runs": ["agreement"], "test_tables": ["accesses", "mappings", "spaces"]}
+WANTED = {
+    "uses": Rules(
+        {
+            *("at_offset", "guest_store", "layer", "list_loaded", "list_mappings", "load_segments", "own_allocator", "own_memory"),
+            *("processes", "run_in_space", "run_in_turn"),
+        }
+    )
+}
+# Modules that are written by hand, by the tests to which they belong: all of them where the main file is.
+BY_HAND = {
+    "test_runs": ["agreement"],
+    "test_tables": ["accesses", "mappings", "memories", "spaces", "tables"],
+    "test_mappers": ["main", "prelude", "world", "mappers", "guest", "beside", "loader", "loaded", "spaces"],
+}
 # The crates of these that the example pagetab has, with their places.
 SHARED = {"pagetab_engine": "../../examples/pagetab/pagetab_engine/mod.rs"}
 # Functions that only call laws.
@@ -29,9 +40,6 @@ IGNORED = Rules({"the_program_stops_at_each_block_that_is_refused"})
 SUPPORT = "more/mod.rs"
 # Names without a use in Rust.
 NO_NAMES = Rules({"std::process::Abort", "std::alloc::Global"})
-# The names of all flags, as Debug writes them.
-LOW_FLAGS = "PRESENT WRITABLE USER_ACCESSIBLE WRITE_THROUGH NO_CACHE ACCESSED DIRTY HUGE_PAGE GLOBAL"
-FLAGS = [*LOW_FLAGS.split(), *(f"BIT_{bit}" for bit in (*range(9, 12), *range(52, 63))), "NO_EXECUTE"]
 # Texts, and what they become.
 REWRITES = Rules(
     {
@@ -45,10 +53,6 @@ REWRITES = Rules(
         # a tuple of one value, once the allocator is cut
         r"let \((\w+),?\) = \((.*)\);": r"let \1 = \2;",
         r"\.collect\(\)": ".collect_in()",
-        # flags by name
-        r"PageTableFlags\(0x3\)": "PageTableFlags(PRESENT | WRITABLE)",
-        r"PageTableFlags\(0x1003\)": "PageTableFlags(PRESENT | WRITABLE | 0x1000)",
-        r"PageTableFlags\(0xfff0000000000fff\)": f"PageTableFlags({' | '.join(FLAGS)})",
     }
 )
 # Methods of traits, and their names.
@@ -172,7 +176,8 @@ def tests(crates):
     """Returns the files of all tests, by their places below tests/."""
     files = {}
     for name, others in TESTS.items():
-        for crate in [name, *(crate for crate in others if crate not in SHARED)]:
+        own = [] if "main" in BY_HAND.get(name, []) else [name]
+        for crate in [*own, *(crate for crate in others if crate not in SHARED)]:
             kind = type("Items", (TestItems,), {"left_out": left_out(crates / crate)})
             for path, place in sources(crates / crate, kind.left_out):
                 text = translated(path, "" if crate == name else crate, others, kind)

@@ -10,6 +10,6 @@ mod derives;
 #[cfg(test)]
 mod page;
 #[cfg(test)]
-mod prelude;
+mod pools;
 #[cfg(test)]
-mod tables;
+mod prelude;

@@ -4,3 +4,5 @@ pub mod FirstEntry
 pub mod KernelRuns
 pub mod KernelCalls
 pub mod PageUnmaps
+mod AgainAtOffset
+mod Listed

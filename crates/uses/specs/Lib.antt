@@ -4,3 +4,5 @@ pub mod InUse
 pub mod SpacesBeside
 pub mod Processes
 pub mod SwitchingKernel
+pub mod Listed
+pub mod TwoRoots

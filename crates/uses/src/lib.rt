@@ -2,9 +2,12 @@
 #![tactic(auto)]
 
 pub mod after_level_4_table_mut;
+pub mod at_offset;
 pub mod first;
 pub mod flush_after_calls;
 pub mod guest_store;
+pub mod layer;
+pub mod list_loaded;
 pub mod list_mappings;
 pub mod load_segments;
 pub mod map_buffer;
@@ -14,6 +17,7 @@ pub mod own_memory;
 pub mod porting;
 pub mod processes;
 pub mod run_in_space;
+pub mod run_in_turn;
 pub mod run_list;
 pub mod switching_kernel;
 pub mod translate_in_dump;

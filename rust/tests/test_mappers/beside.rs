@@ -5,19 +5,7 @@ use crate::more::MoreOfVec;
 use x86_64_paging::support::Vec;
 
 use crate::prelude::*;
-use crate::uses::run_in_space::run_on;
-
-/// Executes calls on a first hierarchy, and then on a second one, which isn't tested again. The pool fits both again.
-fn run_in_turn<T: TableMemory>(
-    memory: &mut T,
-    roots: (Frame, Frame),
-    pool: &mut FramePool,
-    calls: (&[Call], &[Call]),
-    replies: &mut Vec<Reply>,
-) -> Result<(), AllocError> {
-    run_on(memory, IdentityMapping, roots.0, pool, calls.0, replies)?;
-    run_on(memory, IdentityMapping, roots.1, pool, calls.1, replies)
-}
+use crate::uses::run_in_turn::run_in_turn;
 
 /// Creates a pool that fits two empty roots in a memory of empty tables.
 fn pool_of_two<T: TableMemory>(memory: &T, roots: (Frame, Frame)) -> FramePool {

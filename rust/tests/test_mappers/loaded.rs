@@ -1,41 +1,10 @@
 //! The result of a load: a caller loads segments, drops the mapper, and lists all mappings below the root.
 
-use crate::more::MoreOfVec;
 use x86_64_paging::support::Vec;
 
 use crate::loader::{segment, READ, WRITE};
 use crate::prelude::*;
-use crate::uses::list_mappings::list_all;
-use x86_64_paging::loader::{load, segments_allowed, Segment};
-
-/// Loads segments with any mapper, if they may be loaded, and returns true if all of them were.
-fn load_by<M: MapperAllSizes>(mapper: &mut M, pool: &mut FramePool, segments: &[Segment]) -> bool {
-    if !segments_allowed(mapper, segments) {
-        return false;
-    }
-    load(mapper, pool, segments).is_ok()
-}
-
-/// Loads segments with a mapper that is then dropped, if they may be loaded, and returns true if all of them were.
-fn load_into<T: TableMemory>(memory: &mut T, root: Frame, pool: &mut FramePool, segments: &[Segment]) -> bool {
-    let mut mapper = MappedPageTable::new(memory, root, IdentityMapping);
-    load_by(&mut mapper, pool, segments)
-}
-
-/// Loads segments with pages of 4KiB, drops the mapper, and lists all mappings below the root. Each page of the
-/// segments is among them. Returns `None` if the segments may not be loaded, or not all of them were.
-fn load_and_list<T: TableMemory>(
-    memory: &mut T,
-    root: Frame,
-    pool: &mut FramePool,
-    segments: &[Segment],
-) -> Result<Option<Vec<Mapping>>, AllocError> {
-    if !load_into(memory, root, pool, segments) {
-        return Ok(None);
-    }
-    let listed = list_all(memory, root)?;
-    Ok(Some(listed))
-}
+use crate::uses::list_loaded::load_and_list;
 
 /// The mappings after a load of code that a user reads and of data that a user writes.
 const LINES: [&str; 4] = [

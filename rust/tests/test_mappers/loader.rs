@@ -1,4 +1,4 @@
-//! Loads of small programs into empty hierarchies, and a caller whose load can't be refused.
+//! Loads of small programs into empty hierarchies.
 
 use crate::prelude::*;
 use x86_64_paging::loader::{frames_needed, load, load_large, segments_allowed, LoadError, Segment};
@@ -12,22 +12,6 @@ pub const WRITE: u64 = 0x8000_0000_0000_0007;
 pub fn segment(start: u64, to: u64, pages: u64, bits: u64) -> Segment {
     let (page, frame, flags) = (page(start), frame(to), flags(bits));
     Segment { page, frame, pages, flags }
-}
-
-/// Loads segments that do not overlap, into addresses where nothing is mapped, if there are as many frames as needed.
-/// Returns true if there are. Then no map is refused.
-pub fn load_unmapped<M: MapperAllSizes>(mapper: &mut M, pool: &mut FramePool, segments: &[Segment]) -> bool {
-    let free = pool.len() as u64;
-    let Some(needed) = frames_needed(segments) else {
-        return false;
-    };
-    if free < needed {
-        return false;
-    }
-    match load(mapper, pool, segments) {
-        Ok(()) => true,
-        Err(_) => unreachable!(),
-    }
 }
 
 /// Loads a program with pages of 4KiB, or with larger ones where they fit, and returns the number of frames that

@@ -1,6 +1,6 @@
-//! Tests of what is particular to each mapper, of callers with contracts, of address spaces and of the loader. They are
-//! not in the crates themselves, so that each crate is proved only once.
-#![allow(dead_code, unused_imports, unused_parens, unused_variables)]
+//! Tests of what is particular to each mapper, of callers with contracts (those in `uses`), of address spaces and of the
+//! loader.
+#![allow(dead_code, unused_imports)]
 
 #[macro_use]
 #[path = "../more/mod.rs"]

@@ -8,10 +8,12 @@
 mod more;
 mod accesses;
 mod mappings;
+mod memories;
 mod spaces;
+mod tables;
 
 mod addr;
 mod derives;
 mod page;
+mod pools;
 mod prelude;
-mod tables;

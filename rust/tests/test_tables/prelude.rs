@@ -12,17 +12,7 @@ pub use x86_64_paging::pages::page::{
     AddressNotAligned, NotGiantPageSize, Page, Page57, PageIn, PageRangeInclusive, PageSize, Size1GiB, Size2MiB, Size4KiB,
 };
 pub use x86_64_paging::pages::range::{Block, BlockRange, BlockRangeInclusive};
-pub use x86_64_paging::support::AllocError;
-pub use x86_64_paging::tables::frame_alloc::{
-    FrameAllocator, FrameDeallocator, FramePool, FrameStore, LentPool, OwnFrames, PoolRefusal,
-};
-pub use x86_64_paging::tables::page_table::{FrameError, PageTable, PageTableEntry, PageTableFlags};
-pub use x86_64_paging::tables::page_tables::parent_flags;
-pub use x86_64_paging::tables::phys_memory::{
-    Active, ActiveMemory, FramePlace, FrameSegment, IdentityMapping, LentMemory, PageTableFrameMapping, PhysMemory, PlacesRefusal,
-    SegmentMapping, ShiftMapping, TableMemory,
-};
-pub use x86_64_paging::tables::tokens::{FlushItem, FlushRecorder, MapperFlushIn};
+pub use x86_64_paging::tables::page_table::PageTableFlags;
 
 /// Aborts unless two values are equal.
 pub fn assert_equal<T: PartialEq + Debug>(found: T, wanted: T) {
@@ -65,35 +55,4 @@ pub fn page<S: PageSize, L: LevelCount>(raw: u64) -> PageIn<S, L> {
 /// Returns the frame that contains a physical address.
 pub fn frame<S: PageSize>(raw: u64) -> PhysFrame<S> {
     PhysFrame::containing_address(PhysAddr::new_truncate(raw))
-}
-
-/// Returns the 4KiB frame that contains an address, of which the low 52 bits count.
-pub fn frame_at(address: u64) -> PhysFrame<Size4KiB> {
-    PhysFrame::containing_address(PhysAddr::new_truncate(address))
-}
-
-/// Sets words of a memory, each given as its frame, its index and its value, as in the lines of `pagetab`.
-pub fn set_words<T: TableMemory>(memory: &mut T, words: &[u64]) {
-    for word in words.chunks_exact(3) {
-        if let [frame, index, word] = word {
-            let table = unwrap_some(memory.table_mut(FramePlace::new(*frame / 0x1000)));
-            table[PageTableIndex::new_truncate((*index % 512) as u16)].set_word(*word);
-        }
-    }
-}
-
-/// Creates a memory of a number of places with words. A place is the index of a table in memory.
-pub fn memory_of(places: u64, words: &[u64]) -> PhysMemory {
-    let mut memory = unwrap(PhysMemory::new(places));
-    set_words(&mut memory, words);
-    memory
-}
-
-/// Creates a pool with a limit and with frames, given by their start addresses.
-pub fn pool_with(limit: u64, frames: &[u64]) -> FramePool {
-    let mut pool = unwrap(FramePool::new(limit));
-    for frame in frames {
-        unwrap(pool.try_add(frame_at(*frame)));
-    }
-    pool
 }

@@ -1,9 +1,9 @@
 //! A mapper of a memory that is mapped at an offset, with five levels of tables, and whether an offset fits.
 
-use crate::more::MoreOfVec;
 use x86_64_paging::support::Vec;
 
 use crate::prelude::*;
+use crate::uses::at_offset::run_at_offset;
 use x86_64_paging::mappers::calls::translate_addr;
 use x86_64_paging::mappers::offset_page_table::OffsetPageTableIn;
 
@@ -42,19 +42,6 @@ fn offsets_fit_where_each_place_is_reached() {
     }
     check::<FourLevels>(&none, 0xffff_8000_0000_0000, true);
     check::<FourLevels>(&none, 0x123, true);
-}
-
-/// Executes calls with a mapper at an offset, which is then dropped. The owner knows that another one can be created.
-fn run_at_offset<L: LevelCount, P5: LevelFiveFlags<L>>(
-    memory: &mut PhysMemory,
-    root: Frame,
-    phys_offset: VirtAddrIn<L>,
-    pool: &mut FramePool,
-    calls: &[CallIn<L, P5>],
-    replies: &mut Vec<ReplyIn<L>>,
-) -> Result<(), AllocError> {
-    let mut mapper = OffsetPageTableIn::new(memory, root, phys_offset);
-    run(&mut mapper, pool, calls, replies)
 }
 
 /// Executes calls twice, each time with a new mapper. Whether the offset fits is tested only once.

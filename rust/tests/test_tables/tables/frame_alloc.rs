@@ -2,7 +2,7 @@
 
 mod lent_pool;
 
-use crate::prelude::*;
+use crate::memories::*;
 
 /// Compares the frames of a pool, in order, and asserts that there are no more.
 fn check_frames(pool: &FramePool, frames: &[u64]) {
@@ -11,33 +11,6 @@ fn check_frames(pool: &FramePool, frames: &[u64]) {
     for (n, frame) in frames.iter().enumerate() {
         assert_equal_in(n, pool.frame_at(n), Some(frame_at(*frame)));
     }
-}
-
-/// Frames that are added to a pool with the limit 8, one after another, the results, and whether the pool has them then.
-const ADDED: [(u64, Result<(), PoolRefusal>, bool); 5] = [
-    (0x0, Err(PoolRefusal::Zero), false),
-    (0x8000, Err(PoolRefusal::OutOfRange), false),
-    (0x2000, Ok(()), true),
-    (0x2000, Err(PoolRefusal::AlreadyFree), true),
-    (0x7000, Ok(()), true),
-];
-
-#[test]
-fn pool_refuses_what_it_cannot_serve() {
-    let mut pool = pool_with(8, &[]);
-    check_frames(&pool, &[]);
-    for (frame, wanted, is_free) in ADDED {
-        assert_equal_in(frame, pool.try_add(frame_at(frame)), wanted);
-        assert_equal_in(frame, pool.contains(frame_at(frame)), is_free);
-    }
-    check_frames(&pool, &[0x2000, 0x7000]);
-    assert!(!pool.contains(frame_at(0x3000)));
-    // The limit may be any.
-    let mut pool = pool_with(0, &[]);
-    let added = (pool.try_add(frame_at(0x0)), pool.try_add(frame_at(0x1000)));
-    let wanted = (Err(PoolRefusal::Zero), Err(PoolRefusal::OutOfRange));
-    assert_equal(added, wanted);
-    assert_equal(pool.allocate_frame(), None);
 }
 
 #[test]

@@ -1,5 +1,5 @@
 //! Tests of flags, entries and tables.
-use crate::prelude::*;
+use crate::memories::*;
 
 #[test]
 fn flags_have_places() {

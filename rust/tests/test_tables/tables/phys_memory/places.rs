@@ -2,8 +2,8 @@
 //! table in memory.
 
 use super::{fits, is_valid, Pool};
+use crate::memories::*;
 use crate::more::MoreOfVec;
-use crate::prelude::*;
 use x86_64_paging::support::Vec;
 use x86_64_paging::tables::phys_memory::page_walk;
 

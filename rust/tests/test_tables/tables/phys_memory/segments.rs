@@ -1,7 +1,7 @@
 //! Tests of frame mappings by segments.
 
+use crate::memories::*;
 use crate::more::MoreOfVec;
-use crate::prelude::*;
 use x86_64_paging::support::Vec;
 use x86_64_paging::tables::phys_memory::page_walk;
 

@@ -1,3 +1,0 @@
-mod AgainAtOffset
-mod EmptyTables
-mod Listed

@@ -1,3 +1,0 @@
--- What callers in the tests ensure.
-pub mod Beside
-pub mod Listed
