@@ -26,7 +26,7 @@ WANTED = {
 }
 # Modules that are written by hand, by the tests to which they belong: all of them where the main file is.
 BY_HAND = {
-    "test_runs": ["agreement"],
+    "test_runs": ["agreement", "pairs", "refusals"],
     "test_tables": ["accesses", "mappings", "memories", "spaces", "tables"],
     "test_mappers": ["main", "prelude", "world", "mappers", "guest", "beside", "loader", "loaded", "spaces"],
 }

@@ -142,22 +142,6 @@ pub fn run_over<P: PageTableFrameMapping + Drop, L: LevelCount, P5: LevelFiveFla
     run(&mut mapper, pool, calls, replies)
 }
 
-/// Executes calls with a mapper over the identity mapping, like [`run_over`].
-pub fn run_on<L: LevelCount, P5: LevelFiveFlags<L>>(
-    memory: &mut PhysMemory,
-    root: PhysFrame<Size4KiB>,
-    pool: &mut FramePool,
-    calls: &[CallIn<L, P5>],
-    replies: &mut Vec<ReplyIn<L>>,
-) -> Result<(), AllocError>
-    requires { let layout = direct_at L.LEVELS identity_places root in
-        PoolFits (layout laid_in memory.old) (serves_below pool.old.limit) pool.old.frames }
-    ensures { let layout = direct_at L.LEVELS identity_places root in
-        PoolFits (layout laid_in memory.new) (serves_below pool.new.limit) pool.new.frames }
-{
-    run_over(memory, root, IdentityMapping, pool, calls, replies)
-}
-
 /// Executes calls with a mapper of a memory that is mapped at an offset, like [`run_over`].
 pub fn run_at_offset(
     memory: &mut PhysMemory,
@@ -198,7 +182,7 @@ pub fn run_recursive_on<L: LevelCount, P5: LevelFiveFlags<L>>(
     run(&mut mapper, pool, calls, replies)
 }
 
-/// Executes calls with a mapper over the identity mapping, like [`run_on`], and records their flushes.
+/// Executes calls with a mapper over the identity mapping, like [`run_over`], and records their flushes.
 pub fn run_flushed_on(
     memory: &mut PhysMemory,
     root: PhysFrame<Size4KiB>,

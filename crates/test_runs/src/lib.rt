@@ -9,13 +9,9 @@ mod call_rows;
 #[cfg(test)]
 mod images;
 #[cfg(test)]
-mod pairs;
-#[cfg(test)]
 mod prelude;
 #[cfg(test)]
 mod program;
-#[cfg(test)]
-mod refusals;
 #[cfg(test)]
 mod replies;
 #[cfg(test)]

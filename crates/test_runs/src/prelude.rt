@@ -4,7 +4,7 @@ ghost use Rattle.std.specs.Prelude.{◌≡◌, Ok, Some};
 
 pub use crate::images::{
     ROOT, WORD_COUNT, fill, fits, fits_recursive, flags_of, frame_at, page_at, pool_of,
-    run_at_offset, run_flushed_on, run_on, run_over, run_recursive_on, set_word, word_at,
+    run_at_offset, run_flushed_on, run_over, run_recursive_on, set_word, word_at,
 };
 pub use bitflags::Flags;
 pub use pagetab_engine::ending::{Ending, Fault};

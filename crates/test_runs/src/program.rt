@@ -1,4 +1,6 @@
 //! Runs of the program `pagetab` whose reads and writes fail. `tests/pagetab/` has runs of the built program.
+mod refusals;
+
 use crate::prelude::*;
 use crate::streams::{BYTES_AT_ONCE, Sink, Source};
 use pagetab_engine::engine::run;

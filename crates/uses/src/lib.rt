@@ -1,4 +1,4 @@
-//! Callers of the library, each with a contract, which `README.md` and `docs/USING.md` quote.
+//! Callers of the library, each with a contract. `README.md` and `docs/USING.md` quote most of them.
 #![tactic(auto)]
 
 pub mod after_level_4_table_mut;

@@ -107,17 +107,6 @@ pub fn run_over<P: PageTableFrameMapping, L: LevelCount, P5: LevelFiveFlags<L>>(
     run(&mut mapper, pool, calls, replies)
 }
 
-/// Executes calls with a mapper over the identity mapping, like [`run_over`].
-pub fn run_on<L: LevelCount, P5: LevelFiveFlags<L>>(
-    memory: &mut PhysMemory,
-    root: PhysFrame<Size4KiB>,
-    pool: &mut FramePool,
-    calls: &[CallIn<L, P5>],
-    replies: &mut Vec<ReplyIn<L>>,
-) -> Result<(), AllocError> {
-    run_over(memory, root, IdentityMapping, pool, calls, replies)
-}
-
 /// Executes calls with a mapper of a memory that is mapped at an offset, like [`run_over`].
 pub fn run_at_offset(
     memory: &mut PhysMemory,
@@ -146,7 +135,7 @@ pub fn run_recursive_on<L: LevelCount, P5: LevelFiveFlags<L>>(
     run(&mut mapper, pool, calls, replies)
 }
 
-/// Executes calls with a mapper over the identity mapping, like [`run_on`], and records their flushes.
+/// Executes calls with a mapper over the identity mapping, like [`run_over`], and records their flushes.
 pub fn run_flushed_on(
     memory: &mut PhysMemory,
     root: PhysFrame<Size4KiB>,

@@ -10,14 +10,14 @@ mod more;
 mod agreement;
 #[path = "../../examples/pagetab/pagetab_engine/mod.rs"]
 mod pagetab_engine;
+mod pairs;
+mod refusals;
 mod test_reference;
 
 mod call_rows;
 mod images;
-mod pairs;
 mod prelude;
 mod program;
-mod refusals;
 mod replies;
 mod rows;
 mod streams;

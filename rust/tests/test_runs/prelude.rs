@@ -2,8 +2,8 @@
 //! tests, and imports.
 
 pub use crate::images::{
-    fill, fits, fits_recursive, flags_of, frame_at, page_at, pool_of, run_at_offset, run_flushed_on, run_on, run_over,
-    run_recursive_on, set_word, word_at, ROOT, WORD_COUNT,
+    fill, fits, fits_recursive, flags_of, frame_at, page_at, pool_of, run_at_offset, run_flushed_on, run_over, run_recursive_on,
+    set_word, word_at, ROOT, WORD_COUNT,
 };
 pub use crate::pagetab_engine::ending::{Ending, Fault};
 pub use crate::test_reference::words::address;

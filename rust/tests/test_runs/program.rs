@@ -3,10 +3,12 @@
 use std::str::FromStr;
 
 use crate::more::MoreOfVec;
+use x86_64_paging::support::Vec;
+mod refusals;
+
 use crate::pagetab_engine::engine::run;
 use crate::prelude::*;
 use crate::streams::{Sink, Source, BYTES_AT_ONCE};
-use x86_64_paging::support::Vec;
 
 /// Returns the words of a text.
 pub fn words_of(text: &str) -> Vec<String> {

@@ -2,7 +2,6 @@
 mod attempts;
 mod lists;
 mod pairs;
-mod program;
 mod tokens;
 
 use crate::more::Hoard;

@@ -91,7 +91,7 @@ fn answer_directly<L: LevelCount, P5: LevelFiveFlags<L>>(
     let root = frame_at(ROOT);
     let Twins { memory, pool, .. } = twins;
     assert!(fits::<L>(memory, root, pool));
-    unwrap(run_on(memory, root, pool, calls, replies))
+    unwrap(run_over(memory, root, IdentityMapping, pool, calls, replies))
 }
 
 /// Executes calls with the recursive mapper.

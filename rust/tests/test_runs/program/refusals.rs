@@ -1,9 +1,12 @@
-//! Runs of the program `pagetab`.
-use super::hoard_past;
+//! Runs of the program `pagetab` in which memory allocation fails. They fill the address space.
+
+use super::{words_of, SELF_ENTRY};
+use crate::more::Hoard;
+use crate::more::MoreOfVec;
+use crate::pagetab_engine::engine::run;
 use crate::prelude::*;
-use crate::program::{SELF_ENTRY, words_of};
 use crate::streams::{Sink, Source};
-use pagetab_engine::engine::run;
+use x86_64_paging::support::Vec;
 
 /// The last lines of an image, with a table in frame 0x2000, and commands. The first command takes memory only for the
 /// text of its reply.
@@ -58,12 +61,7 @@ const FIVE: (&str, &str) = ("word 0x2000 0 0x6003\n", " 0x2000 0x6000");
 
 /// The arguments of a mode, the root's word for itself if the image needs it, what depends on the number of levels, and
 /// whether the mode is that of a pair.
-type Mode = (
-    &'static str,
-    &'static str,
-    (&'static str, &'static str),
-    bool,
-);
+type Mode = (&'static str, &'static str, (&'static str, &'static str), bool);
 
 /// The modes. Pairs come first, while the memory is hardly used: later an allocator may give a larger block than was asked for, and keep
 /// it for larger requests once it is freed.
@@ -85,20 +83,15 @@ const USED_WRONGLY: Ending = Ending::Stopped(Fault::Usage);
 
 /// Runs the program with room for these blocks, and returns how it ends and its progress. Asserts that it writes the
 /// first of the replies, and all of them if it ends well.
-fn attempt(
-    rt: impl Test,
-    arguments: &str,
-    (input, replies): (&str, &str),
-    room: &[usize],
-) -> (Ending, Stage) {
-    let words = words_of(rt, arguments);
-    let written = unwrap(rt, Vec::with_capacity(rt.alloc(), REPLY_ROOM));
+fn attempt(arguments: &str, (input, replies): (&str, &str), room: &[usize]) -> (Ending, Stage) {
+    let words = words_of(arguments);
+    let written = unwrap(Vec::with_capacity(REPLY_ROOM));
     let (mut source, mut sink) = (Source::new(input.as_bytes(), 0), Sink::new(written, 0));
-    let hoard = hoard_past(rt, room);
-    let ending = run(rt.alloc(), &words, &mut source, &mut sink);
+    let hoard = unwrap(Hoard::past(room));
+    let ending = run(&words, &mut source, &mut sink);
     drop(hoard);
-    let rest = unwrap_some(rt, replies.as_bytes().strip_prefix(sink.bytes.as_slice()));
-    assert!(rt; ending != Ending::Done || rest.is_empty());
+    let rest = unwrap_some(replies.as_bytes().strip_prefix(sink.bytes.as_slice()));
+    assert!(ending != Ending::Done || rest.is_empty());
     match source.calls {
         0 => (ending, 0),
         _ => (ending, sink.calls.saturating_add(1)),
@@ -106,57 +99,48 @@ fn attempt(
 }
 
 /// Refuses each block in turn, with room only for those before it. With room for all of them, the program ends well.
-fn refuse_each(rt: impl Test, (arguments, own, levels, is_pair): Mode) {
-    let input = unwrap(rt, format!(in rt.alloc(); "{own}{}{INPUT}", levels.0));
-    let replies = unwrap(
-        rt,
-        format!(in rt.alloc(); "{REPLIES}{}{FREE_AT_END}", levels.1),
-    );
+fn refuse_each((arguments, own, levels, is_pair): Mode) {
+    let input = unwrap(format_in!("{own}{}{INPUT}", levels.0));
+    let replies = unwrap(format_in!("{REPLIES}{}{FREE_AT_END}", levels.1));
     let texts = (input.as_str(), replies.as_str());
-    let mut room: Vec<usize> = Vec::new(rt.alloc());
+    let mut room: Vec<usize> = Vec::new();
     for (stage, size, of_pair) in &BLOCKS {
         if is_pair || !*of_pair {
-            let stopped = attempt(rt, arguments, texts, &room);
-            assert_equal_in(rt, (arguments, room.len()), stopped, (REFUSED, *stage));
-            unwrap(rt, room.push(*size));
+            let stopped = attempt(arguments, texts, &room);
+            assert_equal_in((arguments, room.len()), stopped, (REFUSED, *stage));
+            unwrap(room.push(*size));
         }
     }
-    let (ending, _) = attempt(rt, arguments, texts, &room);
-    assert_equal_in(rt, arguments, ending, Ending::Done);
+    let (ending, _) = attempt(arguments, texts, &room);
+    assert_equal_in(arguments, ending, Ending::Done);
 }
 
 #[test]
-fn the_program_stops_at_each_block_that_is_refused(rt: HostRuntime) {
+#[ignore]
+fn the_program_stops_at_each_block_that_is_refused() {
     for mode in &MODES {
-        refuse_each(rt, *mode);
+        refuse_each(*mode);
     }
 }
 
 /// Arguments that are refused before memory is taken: numbers out of range, an offset that isn't canonical, and an
 /// unknown mode.
-static WRONG: [&str; 6] = [
-    "",
-    "direct 1",
-    "direct 65537",
-    "offset 8 0x800000000000",
-    "recursive 8 512",
-    "sparse 8",
-];
+static WRONG: [&str; 6] = ["", "direct 1", "direct 65537", "offset 8 0x800000000000", "recursive 8 512", "sparse 8"];
 
 #[test]
-fn wrong_arguments_want_no_memory(rt: HostRuntime) {
+fn wrong_arguments_want_no_memory() {
     for arguments in &WRONG {
-        let stopped = attempt(rt, arguments, ("", ""), &[]);
-        assert_equal_in(rt, *arguments, stopped, (USED_WRONGLY, 0));
+        let stopped = attempt(arguments, ("", ""), &[]);
+        assert_equal_in(*arguments, stopped, (USED_WRONGLY, 0));
     }
 }
 
 #[test]
-fn offsets_are_tested_once_the_memory_is_made(rt: HostRuntime) {
+fn offsets_are_tested_once_the_memory_is_made() {
     let arguments = "offset 512 0x7ffffffff000";
-    let stopped = attempt(rt, arguments, ("", ""), &[]);
-    assert_equal(rt, stopped, (REFUSED, 0));
+    let stopped = attempt(arguments, ("", ""), &[]);
+    assert_equal(stopped, (REFUSED, 0));
     let room = [8 * PLACES, 4096 * PLACES, 8 * PLACES, PLACES];
-    let stopped = attempt(rt, arguments, ("", ""), &room);
-    assert_equal(rt, stopped, (USED_WRONGLY, 0));
+    let stopped = attempt(arguments, ("", ""), &room);
+    assert_equal(stopped, (USED_WRONGLY, 0));
 }

@@ -1,2 +1,0 @@
--- Lemmas of tests.
-mod AlikeAfter

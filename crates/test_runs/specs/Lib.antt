@@ -1,2 +1,0 @@
--- The conditions that tests begin with.
-pub mod Pairs
