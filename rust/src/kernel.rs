@@ -33,7 +33,8 @@
 //! What the crate `x86_64` doesn't have: five levels of tables (`OffsetPageTable57` and the like); many pages by one call
 //! ([`RangeMapper`](structures::paging::mapper::RangeMapper)); address spaces that share some tables
 //! ([`new_space`](structures::paging::mapper::OffsetPageTableIn::new_space),
-//! [`give_up_space`](structures::paging::mapper::OffsetPageTableIn::give_up_space)); what to flush with PCIDs ([`tlb`](instructions::tlb)).
+//! [`give_up_space`](structures::paging::mapper::OffsetPageTableIn::give_up_space)), and clean ups below entries that they share
+//! ([`CleanUpBelowRoot`](structures::paging::mapper::CleanUpBelowRoot)); what to flush with PCIDs ([`tlb`](instructions::tlb)).
 //!
 //! No proof covers this module: it is what the conditions of the proved code rest on.
 
@@ -64,7 +65,7 @@ pub mod structures {
 
         /// Mappers, with their results and errors.
         pub mod mapper {
-            pub use crate::kernel::mapper::{CleanUp, Mapper, MapperAllSizes, RangeMapper, Translate};
+            pub use crate::kernel::mapper::{CleanUp, CleanUpBelowRoot, Mapper, MapperAllSizes, RangeMapper, Translate};
             pub use crate::kernel::pointers::{
                 MappedPageTable, MappedPageTable57, MappedPageTableIn, OffsetPageTable, OffsetPageTable57, OffsetPageTableIn,
                 PageTableFrameMapping,

@@ -2,7 +2,8 @@
 #![cfg(all(feature = "instructions", target_arch = "x86_64"))]
 
 use x86_64::structures::paging::mapper::{
-    CleanUp, InvalidPageTable, MapToError, MapperAllSizes, PageTableFrameMapping, RangeMapper, TranslateError, UnmapError,
+    CleanUp, CleanUpBelowRoot, InvalidPageTable, MapToError, MapperAllSizes, PageTableFrameMapping, RangeMapper, TranslateError,
+    UnmapError,
 };
 use x86_64::structures::paging::{
     FrameAllocator, FrameDeallocator, MappedPageTable, MappedPageTable57, Mapper, OffsetPageTable, OffsetPageTable57, Page, Page57,
@@ -282,6 +283,19 @@ fn a_new_space_shares_a_half_and_is_given_up() {
     assert_eq!(process.translate_page(shared + 1), Ok(PhysFrame::from_pfn(99)));
     // SAFETY: as above; the process has a table, so it isn't given up.
     assert_eq!(unsafe { kernel.give_up_space(&space, half, &mut free) }, Err(GiveUpError::EntryUsed));
+
+    // Below the shared entry, which stays, tables come and go for both.
+    let far = shared + (1 << 18);
+    let (entry, left) = (kernel.level_4_table()[256].word(), free.0.len());
+    // SAFETY: as above; no entry of a root changes.
+    unsafe { kernel.map_to(far, PhysFrame::from_pfn(66), BOTH, &mut free) }.expect("frames are free").ignore();
+    assert_eq!((process.translate_page(far), free.0.len()), (Ok(PhysFrame::from_pfn(66)), left - 2));
+    kernel.unmap(far).expect("the page is mapped").1.ignore();
+    let kernels_half = Page::range_inclusive(shared, Page::containing_address(VirtAddr::new(0xffff_ffff_ffff_f000)));
+    // SAFETY: as above; one entry alone names each table below the shared one.
+    unsafe { kernel.clean_up_below_root(kernels_half, &mut free) };
+    assert_eq!((kernel.level_4_table()[256].word(), free.0.len()), (entry, left));
+    assert_eq!(process.translate_page(shared), Ok(PhysFrame::from_pfn(77)));
 
     process.unmap(own).expect("the page is mapped").1.ignore();
     let own_half = Page::range_inclusive(

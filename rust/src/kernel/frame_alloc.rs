@@ -54,7 +54,7 @@ impl<D: FrameDeallocator<Size4KiB> + ?Sized> frame_alloc::FrameDeallocator<Size4
     #[inline]
     fn deallocate_frame(&mut self, frame: PhysFrame) {
         // SAFETY: it is called for a table whose entry was the only one that named it and is unused now, or for a root that no
-        // processor uses. That no processor has cached such a table is promised by the caller of `clean_up` or `give_up_space`.
+        // processor uses. That no processor has cached such a table is promised by the caller of a clean up or of `give_up_space`.
         unsafe { self.0.deallocate_frame(frame) }
     }
 }

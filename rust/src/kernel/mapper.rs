@@ -253,6 +253,21 @@ pub trait CleanUp<L: LevelCount = FourLevels> {
         D: FrameDeallocator<Size4KiB>;
 }
 
+/// Removes empty tables, but none that the root's entries name. The crate `x86_64` doesn't have it.
+pub trait CleanUpBelowRoot<L: LevelCount = FourLevels> {
+    /// Removes the empty tables of a range of pages, as [`clean_up_addr_range`](CleanUp::clean_up_addr_range) does, but keeps those that the
+    /// root's entries name, empty or not. So the root's entries stay, and with them what address spaces share.
+    ///
+    /// # Safety
+    ///
+    /// - Each table there that the root doesn't name is named by one entry alone, which may be in a table that several roots share, and its
+    ///   frame belongs to the deallocator. No code keeps a reference to it.
+    /// - Each processor that uses one of these roots flushes everything before the frames are used anew.
+    unsafe fn clean_up_below_root<D>(&mut self, range: BlockRangeInclusive<PageIn<Size4KiB, L>>, frame_deallocator: &mut D)
+    where
+        D: FrameDeallocator<Size4KiB>;
+}
+
 /// Passes the frames of unmapped pages on.
 pub(super) struct Sink<S: PageSize, F: FnMut(PhysFrame<S>)>(pub F, pub core::marker::PhantomData<S>);
 
@@ -398,6 +413,17 @@ macro_rules! forward_calls {
                 frame_deallocator: &mut D,
             ) {
                 calls::clean_up_range(&mut self.$tables, range, &mut Removed(frame_deallocator));
+                $moved
+            }
+        }
+
+        impl<$($generics)*> CleanUpBelowRoot<$L> for $Mapper {
+            unsafe fn clean_up_below_root<D: FrameDeallocator<Size4KiB>>(
+                &mut self,
+                range: BlockRangeInclusive<PageIn<Size4KiB, $L>>,
+                frame_deallocator: &mut D,
+            ) {
+                calls::clean_up_below_root(&mut self.$tables, range, &mut Removed(frame_deallocator));
                 $moved
             }
         }

@@ -1,7 +1,7 @@
 //! Mappers that reach tables at the pointers of their frames.
 
 use super::frame_alloc::{FrameAllocator, FrameDeallocator, Removed, Supply};
-use super::mapper::{forward_calls, CleanUp, Mapper, RangeMapper, Sink, Translate};
+use super::mapper::{forward_calls, CleanUp, CleanUpBelowRoot, Mapper, RangeMapper, Sink, Translate};
 use crate::access::{access, Access, Controls, Fault};
 use crate::addresses::addr::{PhysAddr, VirtAddrIn};
 use crate::addresses::index::PageTableIndex;
@@ -174,8 +174,9 @@ macro_rules! methods {
             ///
             /// - The shared indices are the same for all spaces that are made of this one. At these indices no entry of any of the roots
             ///   changes any more, since the others wouldn't: each that is ever to be used names a table before the first space is made.
-            ///   So no call needs a new table there, changes flags there, or removes a table there (for example
-            ///   [`clean_up`](CleanUp::clean_up) of all pages).
+            ///   So no call changes such an entry: none removes the table that it names, as [`clean_up`](CleanUp::clean_up) of all pages
+            ///   may, and none adds parent flags to it or sets its flags. Below these tables
+            ///   [`clean_up_below_root`](CleanUpBelowRoot::clean_up_below_root) removes those that are empty.
             /// - While a call of a mapper of one of the spaces runs, none of another one does.
             /// - What [`Mapper`] and [`CleanUp`] ask for holds in each space with the same tables. `GLOBAL` stands only in flags of pages
             ///   below shared indices.

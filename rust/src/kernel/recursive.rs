@@ -1,7 +1,7 @@
 //! The mapper that reaches the tables in use through the root's entry for itself.
 
 use super::frame_alloc::{FrameAllocator, FrameDeallocator, Removed, Supply};
-use super::mapper::{forward_calls, CleanUp, Mapper, RangeMapper, Sink, Translate};
+use super::mapper::{forward_calls, CleanUp, CleanUpBelowRoot, Mapper, RangeMapper, Sink, Translate};
 use crate::addresses::addr::{PhysAddr, VirtAddrIn};
 use crate::addresses::index::PageTableIndex;
 use crate::addresses::level_count::{FiveLevels, FourLevels, LevelCount};
