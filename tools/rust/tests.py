@@ -27,7 +27,7 @@ WANTED = {
 # Modules that are written by hand, by the tests to which they belong: all of them where the main file is.
 BY_HAND = {
     "test_runs": ["agreement", "pairs", "refusals"],
-    "test_tables": ["accesses", "mappings", "memories", "spaces", "tables"],
+    "test_tables": ["accesses", "addresses", "common", "mappings", "pages", "spaces", "tables"],
     "test_mappers": ["main", "prelude", "world", "mappers", "guest", "beside", "loader", "loaded", "spaces"],
 }
 # The crates of these that the example pagetab has, with their places.

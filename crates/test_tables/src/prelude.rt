@@ -4,24 +4,13 @@ ghost use Rattle.std.specs.Prelude.{◌≡◌, Ok, Some};
 pub use bitflags::Flags;
 pub use std::fmt::Debug;
 pub use std::process::Abort;
-pub use x86_64_addr::addr::{
-    PhysAddr, PhysAddrNotValid, VirtAddr, VirtAddr57, VirtAddr57NotValid, VirtAddrIn,
-    VirtAddrNotValid, align_down, align_up,
-};
+pub use x86_64_addr::addr::{PhysAddr, VirtAddr, VirtAddr57, VirtAddrIn, align_down, align_up};
 pub use x86_64_addr::index::{PageOffset, PageTableIndex, PageTableLevel, PageTableLevel57};
 pub use x86_64_addr::level_count::{FiveLevels, FourLevels, LevelCount};
 pub use x86_64_page::frame::{PfnNotValid, PhysFrame};
-pub use x86_64_page::page::{
-    AddressNotAligned, NotGiantPageSize, Page, Page57, PageIn, PageRangeInclusive, PageSize,
-    Size1GiB, Size2MiB, Size4KiB,
-};
+pub use x86_64_page::page::{Page, Page57, PageIn, PageSize, Size1GiB, Size2MiB, Size4KiB};
 pub use x86_64_page::range::{Block, BlockRange, BlockRangeInclusive};
 pub use x86_64_tables::page_table::PageTableFlags;
-
-/// What tests need of the runtime: it aborts, and allocates memory.
-pub trait Test: Abort + AllocGlobal + Copy {}
-
-impl<R: Abort + AllocGlobal + Copy> Test for R {}
 
 /// Aborts unless two values are equal.
 pub fn assert_equal<T: PartialEq + Debug + Drop>(rt: impl Abort + Copy, found: T, wanted: T) {
@@ -36,12 +25,6 @@ pub fn assert_equal_in<C: Debug + Drop, T: PartialEq + Debug + Drop>(
     wanted: T,
 ) {
     assert_eq!(rt; found, wanted, "in {case:?}");
-}
-
-/// Aborts unless a value has this Debug text.
-pub fn assert_text<T: Debug>(rt: impl Test, value: &T, wanted: &str) {
-    let text = unwrap(rt, format!(in rt.alloc(); "{value:?}"));
-    assert_equal(rt, text.as_str(), wanted);
 }
 
 /// Returns the value of a result, or aborts if it is an error. A call has only one exit. With `?`, a test would have

@@ -1,6 +1,6 @@
 //! Tests of accesses: who may do what to a page, and which fault comes otherwise.
 
-use crate::memories::*;
+use crate::common::*;
 use x86_64_paging::access::{access, access_and_mark, Access, AccessKind, Controls, Fault};
 use x86_64_paging::{read_entries, EntriesRead, WalkEntry, MOST_LEVELS};
 

@@ -7,8 +7,10 @@
 #[path = "../more/mod.rs"]
 mod more;
 mod accesses;
+mod addresses;
+mod common;
 mod mappings;
-mod memories;
+mod pages;
 mod spaces;
 mod tables;
 

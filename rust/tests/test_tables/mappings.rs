@@ -1,7 +1,7 @@
 //! Tests of lists of mappings from an address on, and of some that are not there, by the lines that they are printed as, and of the
 //! entries that walks read. Lists of all mappings and regions are in `tests/ptdump/mappings.txt`.
 
-use crate::memories::*;
+use crate::common::*;
 use std::fmt::Display;
 use x86_64_paging::listing::{mappings, mappings_57, mappings_from, regions, regions_57};
 use x86_64_paging::{read_entries, EntriesRead, Rights, WalkEnd, WalkEntry, MOST_LEVELS};

@@ -1,16 +1,12 @@
 //! What most tests use: assertions as functions, so that the messages of failed ones are here once, and shorthands.
 
 pub use std::fmt::Debug;
-pub use x86_64_paging::addresses::addr::{
-    align_down, align_up, PhysAddr, PhysAddrNotValid, VirtAddr, VirtAddr57, VirtAddr57NotValid, VirtAddrIn, VirtAddrNotValid,
-};
+pub use x86_64_paging::addresses::addr::{align_down, align_up, PhysAddr, VirtAddr, VirtAddr57, VirtAddrIn};
 pub use x86_64_paging::addresses::index::{PageOffset, PageTableIndex, PageTableLevel, PageTableLevel57};
 pub use x86_64_paging::addresses::level_count::{FiveLevels, FourLevels, LevelCount};
 pub use x86_64_paging::bitflags::Flags;
 pub use x86_64_paging::pages::frame::{PfnNotValid, PhysFrame};
-pub use x86_64_paging::pages::page::{
-    AddressNotAligned, NotGiantPageSize, Page, Page57, PageIn, PageRangeInclusive, PageSize, Size1GiB, Size2MiB, Size4KiB,
-};
+pub use x86_64_paging::pages::page::{Page, Page57, PageIn, PageSize, Size1GiB, Size2MiB, Size4KiB};
 pub use x86_64_paging::pages::range::{Block, BlockRange, BlockRangeInclusive};
 pub use x86_64_paging::tables::page_table::PageTableFlags;
 
@@ -22,12 +18,6 @@ pub fn assert_equal<T: PartialEq + Debug>(found: T, wanted: T) {
 /// Aborts unless two values are equal, and prints the case that they belong to.
 pub fn assert_equal_in<C: Debug, T: PartialEq + Debug>(case: C, found: T, wanted: T) {
     assert_eq!(found, wanted, "in {case:?}");
-}
-
-/// Aborts unless a value has this Debug text.
-pub fn assert_text<T: Debug>(value: &T, wanted: &str) {
-    let text = unwrap(format_in!("{value:?}"));
-    assert_equal(text.as_str(), wanted);
 }
 
 /// Returns the value of a result, or aborts if it is an error. A call has only one exit. With `?`, a test would have

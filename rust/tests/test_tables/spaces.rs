@@ -1,6 +1,6 @@
 //! Tests of address spaces that share the upper half, or share in pairs, with four levels of page tables and with five.
 
-use crate::memories::*;
+use crate::common::*;
 use crate::more::Hoard;
 use x86_64_paging::spaces::{
     grouped_spaces_fit, grouped_spaces_fit_by_marks, spaces_fit, spaces_fit_by_marks, GroupIndices, GroupedSpace, SharedIndices,

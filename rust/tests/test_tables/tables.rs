@@ -3,7 +3,7 @@ mod frame_alloc;
 mod page_table;
 mod phys_memory;
 
-use crate::memories::*;
+use crate::common::*;
 
 /// Bits, those of them that parents get, and whether there are address bits among them.
 const PARTS: [(u64, u64, bool); 6] = [

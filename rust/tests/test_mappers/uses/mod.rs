@@ -1,4 +1,4 @@
-//! Callers of the library, each with a contract, which `README.md` and `docs/USING.md` quote.
+//! Callers of the library, each with a contract. `README.md` and `docs/USING.md` quote most of them.
 
 pub mod at_offset;
 pub mod guest_store;

@@ -2,7 +2,7 @@
 
 mod lent_pool;
 
-use crate::memories::*;
+use crate::common::*;
 
 /// Compares the frames of a pool, in order, and asserts that there are no more.
 fn check_frames(pool: &FramePool, frames: &[u64]) {

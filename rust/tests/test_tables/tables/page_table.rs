@@ -1,5 +1,5 @@
 //! Tests of flags, entries and tables.
-use crate::memories::*;
+use crate::common::*;
 
 #[test]
 fn flags_have_places() {

@@ -5,7 +5,7 @@ mod alike;
 mod places;
 mod segments;
 
-use crate::memories::*;
+use crate::common::*;
 use x86_64_paging::tables::phys_memory::{
     is_valid_by_marks, is_valid_hierarchy, is_valid_hierarchy_57, is_valid_recursive, is_valid_recursive_57, pool_fits,
     pool_fits_57, pool_fits_by_marks, pool_fits_recursive, pool_fits_recursive_57,

@@ -1,7 +1,7 @@
 //! Tests of pools in lent arrays, which are stacks.
 
 use super::take_and_put_back;
-use crate::memories::*;
+use crate::common::*;
 
 /// The entries of each array when it is lent.
 const ENTRIES: [u64; 4] = [0x2000, 0x3000, 0x5000, 0x7000];

@@ -1,7 +1,7 @@
 //! Tests of tables that are reached through the root's entry for itself, with four levels of page tables and with
 //! five.
 use super::RECURSIVE_57;
-use crate::memories::*;
+use crate::common::*;
 
 /// The window (page) of the root for the recursive index 510.
 const ROOT_WINDOW: u64 = 0xffff_ff7f_bfdf_e000;

@@ -1,7 +1,7 @@
 //! Tests of alike hierarchies, whose path maps are equal except for `WRITABLE` of table entries.
 
 use super::RECURSIVE_57;
-use crate::memories::*;
+use crate::common::*;
 use x86_64_paging::tables::phys_memory::{tables_alike, tables_alike_57};
 
 /// The words of a hierarchy with a 4KiB page, whose table entries are not writable.

@@ -2,7 +2,7 @@
 //! table in memory.
 
 use super::{fits, is_valid, Pool};
-use crate::memories::*;
+use crate::common::*;
 use crate::more::MoreOfVec;
 use x86_64_paging::support::Vec;
 use x86_64_paging::tables::phys_memory::page_walk;

@@ -1,6 +1,6 @@
 //! Tests of frame mappings by segments.
 
-use crate::memories::*;
+use crate::common::*;
 use crate::more::MoreOfVec;
 use x86_64_paging::support::Vec;
 use x86_64_paging::tables::phys_memory::page_walk;

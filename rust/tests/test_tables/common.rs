@@ -1,6 +1,8 @@
-//! Memories and pools that tests begin with, and what tests of tables import.
+//! What tests by hand share: memories and pools that they begin with, texts, and imports.
 
 pub use crate::prelude::*;
+pub use x86_64_paging::addresses::addr::{PhysAddrNotValid, VirtAddr57NotValid, VirtAddrNotValid};
+pub use x86_64_paging::pages::page::{AddressNotAligned, NotGiantPageSize, PageRangeInclusive};
 pub use x86_64_paging::support::AllocError;
 pub use x86_64_paging::tables::frame_alloc::{FrameAllocator, FrameDeallocator, FramePool, FrameStore, LentPool, OwnFrames};
 pub use x86_64_paging::tables::page_table::{FrameError, PageTable, PageTableEntry};
@@ -40,4 +42,9 @@ pub fn pool_with(limit: u64, frames: &[u64]) -> FramePool {
         unwrap(pool.try_add(frame_at(*frame)));
     }
     pool
+}
+
+/// Asserts that a value has this Debug text.
+pub fn assert_text<T: Debug>(value: &T, wanted: &str) {
+    assert_eq!(format!("{value:?}"), wanted);
 }
