@@ -4,4 +4,6 @@
 #[cfg(test)]
 mod library;
 #[cfg(test)]
+mod prelude;
+#[cfg(test)]
 mod program;

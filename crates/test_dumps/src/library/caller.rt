@@ -3,7 +3,7 @@ ghost use Rattle.std.specs.Prelude.{◌≡◌, IfOk, Ok};
 ghost use Rattle.x86_64_dump.specs.Dump.{Contents, words_of_dump};
 ghost use Rattle.x86_64_dump.specs.Opening.{contents_of};
 
-use std::alloc::Global;
+use crate::prelude::*;
 use test_support::{Memory, push_core_file};
 use x86_64_addr::addr::PhysAddr;
 use x86_64_dump::{Dump, DumpError};
@@ -31,11 +31,8 @@ fn a_frame_is_read_of_a_slice(rt: HostRuntime) {
         bytes: &[7; 4096],
     };
     let mut bytes = Vec::new(rt.alloc());
-    assert!(rt; push_core_file(&mut bytes, &[], &[memory]).is_ok());
+    unwrap(rt, push_core_file(&mut bytes, &[], &[memory]));
     let frame = PhysFrame::containing_address(PhysAddr::new_truncate(0x1000));
     let found = words_of(rt.alloc(), bytes.as_slice(), None, frame);
-    let Ok(Some(words)) = found else {
-        panic!(rt; "the frame wasn't read");
-    };
-    assert_eq!(rt; words, [0x0707_0707_0707_0707; 512]);
+    assert_equal(rt, unwrap(rt, found), Some([0x0707_0707_0707_0707; 512]));
 }

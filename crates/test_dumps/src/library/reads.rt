@@ -1,5 +1,5 @@
 //! Tests of reads that fail in the middle of a file.
-use std::alloc::Global;
+use crate::prelude::*;
 use std::io::{self, ErrorKind};
 use test_support::{Memory, Processor, push_core_file};
 use x86_64_addr::addr::PhysAddr;
@@ -137,16 +137,14 @@ fn each_failed_read_is_passed_on(rt: HostRuntime) {
         bytes: &frame,
     };
     let mut bytes = Vec::new(rt.alloc());
-    assert!(rt; push_core_file(&mut bytes, &[Processor { cr3: 0, cr4: 0 }], &memory).is_ok());
+    let processors = [Processor { cr3: 0, cr4: 0 }];
+    unwrap(rt, push_core_file(&mut bytes, &processors, &memory));
     for readable in 0..bytes.len() as u64 + 1 {
         let source = BrokenSource {
             bytes: bytes.as_slice(),
             readable,
         };
-        assert_eq!(rt;
-            outcomes(rt.alloc(), source),
-            wanted(readable),
-            "{readable} bytes"
-        );
+        let found = outcomes(rt.alloc(), source);
+        assert_equal_in(rt, readable, found, wanted(readable));
     }
 }

@@ -1,5 +1,5 @@
 //! Tests of the registers in notes, of which `ptdump` shows a few bits.
-use std::process::Abort;
+use crate::prelude::*;
 use test_support::{CR0, Memory, Processor, push_core_file};
 use x86_64_dump::{Dump, DumpError};
 
@@ -15,11 +15,20 @@ static PROCESSORS: [Processor; 2] = [
     },
 ];
 
-/// Returns the value of a register.
-fn value(rt: impl Abort + Copy, read: Result<u64, DumpError>) -> u64 {
-    match read {
-        Ok(value) => value,
-        Err(_) => panic!(rt; "the register wasn't read"),
+/// Compares a register.
+fn check(rt: impl Abort + Copy, read: Result<u64, DumpError>, wanted: u64) {
+    assert_equal(rt, unwrap(rt, read), wanted);
+}
+
+/// Compares the registers in the notes of a core file.
+fn check_registers(rt: impl Abort + Copy, alloc: Global, file: &[u8]) {
+    let dump = unwrap(rt, Dump::open(alloc, file, None));
+    let notes = unwrap(rt, dump.processors(alloc));
+    assert_equal(rt, notes.len(), PROCESSORS.len());
+    for (note, processor) in notes.iter().zip(PROCESSORS.iter()) {
+        check(rt, dump.cr0(note), CR0);
+        check(rt, dump.cr3(note), processor.cr3);
+        check(rt, dump.cr4(note), processor.cr4);
     }
 }
 
@@ -30,17 +39,6 @@ fn registers_are_read_whole(rt: HostRuntime) {
         bytes: &[],
     };
     let mut bytes = Vec::new(rt.alloc());
-    assert!(rt; push_core_file(&mut bytes, &PROCESSORS, &[memory]).is_ok());
-    let Ok(dump) = Dump::open(rt.alloc(), bytes.as_slice(), None) else {
-        panic!(rt; "the file wasn't opened");
-    };
-    let Ok(notes) = dump.processors(rt.alloc()) else {
-        panic!(rt; "the notes weren't read");
-    };
-    assert_eq!(rt; notes.len(), PROCESSORS.len());
-    for (note, processor) in notes.iter().zip(PROCESSORS.iter()) {
-        assert_eq!(rt; value(rt, dump.cr0(note)), CR0);
-        assert_eq!(rt; value(rt, dump.cr3(note)), processor.cr3);
-        assert_eq!(rt; value(rt, dump.cr4(note)), processor.cr4);
-    }
+    unwrap(rt, push_core_file(&mut bytes, &PROCESSORS, &[memory]));
+    check_registers(rt, rt.alloc(), &bytes);
 }

@@ -1,7 +1,6 @@
 //! Tests of the texts of errors that hold a fault. `ptdump` prints that of the fault alone.
-use std::alloc::Global;
+use crate::prelude::*;
 use std::fmt::Display;
-use std::process::Abort;
 use x86_64_dump::{DumpError, Fault, KernelFault, Key, UnreadFormat};
 
 /// A fault of each kind.
@@ -58,16 +57,13 @@ static FAULTS: [Fault; 20] = [
 
 /// Returns the text of a value.
 fn text_of<T: Display>(rt: impl Abort + Copy, alloc: Global, value: &T) -> String {
-    match format!(in alloc; "{value}") {
-        Ok(text) => text,
-        Err(_) => panic!(rt; "out of memory"),
-    }
+    unwrap(rt, format!(in alloc; "{value}"))
 }
 
 #[test]
 fn an_error_has_the_text_of_its_fault(rt: HostRuntime) {
     for fault in &FAULTS {
         let text = text_of(rt, rt.alloc(), &DumpError::Fault(*fault));
-        assert_eq!(rt; text, text_of(rt, rt.alloc(), fault));
+        assert_equal(rt, text, text_of(rt, rt.alloc(), fault));
     }
 }

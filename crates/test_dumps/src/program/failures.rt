@@ -1,11 +1,10 @@
 //! Tests of reads and writes that fail.
+use crate::prelude::*;
 use crate::program::machines::{MIXED, core_file};
-use crate::program::runs::{EACH, Ran, Sink, Word, run_into, run_on, unwrap};
+use crate::program::runs::{EACH, Ran, Sink, Word, run_into, run_on};
 use ptdump_engine::Failure;
-use std::alloc::Global;
 use std::cell::Cell;
 use std::io::{self, ErrorKind};
-use std::process::Abort;
 use x86_64_dump::ByteSource;
 
 /// A file of which only a number of reads succeed, and none after them.
@@ -75,12 +74,11 @@ fn reads_needed(
     for reads in 0..1000 {
         let ran = run_with_reads(rt, alloc, file, word, reads);
         if ran.status() < 2 {
-            assert_eq!(rt; ran.output.bytes[..], *wanted, "{word:?}, {reads} reads");
+            assert_equal_in(rt, (word, reads), ran.output.bytes.as_slice(), wanted);
             return reads;
         }
-        assert_eq!(rt; ran.status(), 3, "{word:?}, {reads} reads");
         let is_of_read = matches!(ran.ended, Err(Failure::Read(_)));
-        assert!(rt; is_of_read, "{word:?}, {reads} reads");
+        assert_equal_in(rt, (word, reads), (ran.status(), is_of_read), (3, true));
     }
     1000
 }
@@ -93,24 +91,25 @@ fn each_failed_read_ends_a_run(rt: HostRuntime) {
         let wanted = run_on(rt, alloc, &file, word).output.bytes;
         let needed = reads_needed(rt, alloc, &file, word, &wanted);
         // At least the header, the program headers, the note, three registers and six tables are read.
-        assert!(rt; (12..1000).contains(&needed), "{word:?}");
+        assert_equal_in(rt, (word, needed), (12..1000).contains(&needed), true);
     }
 }
 
 /// The number of bytes that a writer takes at once if it is to fail later.
 const AT_ONCE: usize = 211;
 
+/// Checks that a run ended at a write that failed, and what it wrote until then.
+fn check_cut(rt: impl Abort + Copy, word: Word, status: u8, written: &[u8], wanted: &[u8]) {
+    assert_equal_in(rt, word, status, 5);
+    assert_equal_in(rt, word, written, wanted);
+}
+
 /// Runs a command with ever more room in the output, and checks that it ends there, with the output that has room.
 fn check_output(rt: impl Abort + Copy, alloc: Global, file: &[u8], word: Word, wanted: &[u8]) {
     for room in (0..wanted.len()).step_by(AT_ONCE) {
         let (narrow, wide) = (Sink::new(alloc, AT_ONCE, room), Sink::wide(alloc));
         let ran = run_into(rt, alloc, file, word, narrow, wide);
-        assert_eq!(rt; ran.status(), 5, "{word:?}, {room} bytes");
-        assert_eq!(rt;
-            ran.output.bytes[..],
-            wanted[..room],
-            "{word:?}, {room} bytes"
-        );
+        check_cut(rt, word, ran.status(), &ran.output.bytes, &wanted[..room]);
     }
 }
 
@@ -119,22 +118,26 @@ fn check_errors(rt: impl Abort + Copy, alloc: Global, file: &[u8], word: Word, w
     for room in (0..wanted.len()).step_by(AT_ONCE) {
         let (wide, narrow) = (Sink::wide(alloc), Sink::new(alloc, AT_ONCE, room));
         let ran = run_into(rt, alloc, file, word, wide, narrow);
-        assert_eq!(rt; ran.status(), 5, "{word:?}, {room} bytes");
-        assert_eq!(rt;
-            ran.errors.bytes[..],
-            wanted[..room],
-            "{word:?}, {room} bytes"
-        );
+        check_cut(rt, word, ran.status(), &ran.errors.bytes, &wanted[..room]);
     }
+}
+
+/// Checks that two runs of a command ended alike, and wrote the same.
+fn check_same(rt: impl Abort + Copy, word: Word, ran: &Ran, wanted: &Ran) {
+    assert_equal_in(rt, word, ran.status(), wanted.status());
+    let (output, errors) = (ran.output.bytes.as_slice(), ran.errors.bytes.as_slice());
+    assert_equal_in(rt, word, output, wanted.output.bytes.as_slice());
+    assert_equal_in(rt, word, errors, wanted.errors.bytes.as_slice());
 }
 
 /// Runs a command with writers that take one byte at once, and checks that they get all.
 fn check_slow(rt: impl Abort + Copy, alloc: Global, file: &[u8], word: Word, whole: &Ran) {
-    let slow = || Sink::new(alloc, 1, usize::MAX);
-    let ran = run_into(rt, alloc, file, word, slow(), slow());
-    assert_eq!(rt; ran.status(), whole.status(), "{word:?}");
-    assert_eq!(rt; ran.output.bytes, whole.output.bytes, "{word:?}");
-    assert_eq!(rt; ran.errors.bytes, whole.errors.bytes, "{word:?}");
+    let (output, errors) = (
+        Sink::new(alloc, 1, usize::MAX),
+        Sink::new(alloc, 1, usize::MAX),
+    );
+    let ran = run_into(rt, alloc, file, word, output, errors);
+    check_same(rt, word, &ran, whole);
 }
 
 #[test]

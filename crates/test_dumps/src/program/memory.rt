@@ -1,9 +1,8 @@
 //! A test of memory allocations that fail.
+use crate::prelude::*;
 use crate::program::machines::{MIXED, core_file};
-use crate::program::runs::{EACH, Ran, Sink, run_on, unwrap};
+use crate::program::runs::{EACH, Ran, Sink, run_on};
 use ptdump_engine::{Failure, NoProgress, Request, run};
-use std::alloc::Global;
-use std::process::Abort;
 use test_support::Hoard;
 
 /// The greatest number of rooms that are tried.
@@ -14,7 +13,7 @@ fn requests(rt: impl Abort + Copy, alloc: Global) -> Vec<Request> {
     let mut requests = Vec::new(alloc);
     for word in EACH {
         let request = unwrap(rt, word.request(alloc));
-        assert!(rt; requests.push(request).is_ok());
+        unwrap(rt, requests.push(request));
     }
     requests
 }
@@ -28,9 +27,9 @@ fn runs_to_come(rt: impl Abort + Copy, alloc: Global) -> Vec<Ran> {
             errors: Sink::wide(alloc),
             ended: Err(Failure::Output),
         };
-        assert!(rt; ran.output.bytes.reserve(0x1_0000).is_ok());
-        assert!(rt; ran.errors.bytes.reserve(0x1_0000).is_ok());
-        assert!(rt; runs.push(ran).is_ok());
+        unwrap(rt, ran.output.bytes.reserve(0x1_0000));
+        unwrap(rt, ran.errors.bytes.reserve(0x1_0000));
+        unwrap(rt, runs.push(ran));
     }
     runs
 }
@@ -58,7 +57,7 @@ fn run_with_room(rt: impl Abort + Copy, alloc: Global, file: &[u8], room: usize)
 fn whole_runs(rt: impl Abort + Copy, alloc: Global, file: &[u8]) -> Vec<Ran> {
     let mut runs = Vec::new(alloc);
     for word in EACH {
-        assert!(rt; runs.push(run_on(rt, alloc, file, word)).is_ok());
+        unwrap(rt, runs.push(run_on(rt, alloc, file, word)));
     }
     runs
 }
@@ -67,11 +66,11 @@ fn whole_runs(rt: impl Abort + Copy, alloc: Global, file: &[u8]) -> Vec<Ran> {
 fn is_whole(rt: impl Abort + Copy, number: usize, ran: &Ran, wanted: &Ran) -> bool {
     let (taken, whole) = (&ran.output.bytes, &wanted.output.bytes);
     if ran.status() == wanted.status() {
-        assert_eq!(rt; taken, whole, "command {number}");
+        assert_equal_in(rt, number, taken.as_slice(), whole.as_slice());
         return true;
     }
-    assert_eq!(rt; ran.status(), 4, "command {number}");
-    assert!(rt; whole.starts_with(taken), "command {number}");
+    assert_equal_in(rt, number, ran.status(), 4);
+    assert_equal_in(rt, number, whole.starts_with(taken), true);
     false
 }
 
@@ -101,7 +100,7 @@ fn each_growth_may_be_refused(rt: HostRuntime) {
     let mut room = 0_usize;
     for _ in 0..MOST_ROOMS {
         let done = count_whole(rt, alloc, &file, room, &wanted);
-        assert!(rt; room > 0 || done == 0, "{done} runs need no memory");
+        assert_equal_in(rt, done, room > 0 || done == 0, true);
         if done == EACH.len() {
             return;
         }

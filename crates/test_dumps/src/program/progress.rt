@@ -1,6 +1,7 @@
 //! A test of the progress that is told.
+use crate::prelude::*;
 use crate::program::machines::{Machine, Table, core_file};
-use crate::program::runs::{Word, run_on, text_of, unwrap};
+use crate::program::runs::{Word, run_on, text_of};
 use test_support::Processor;
 
 /// A machine, and the text on its tables in the report of a run, which tells as many as the progress does.
@@ -80,7 +81,6 @@ fn each_table_is_told_once(rt: HostRuntime) {
         let file = unwrap(rt, core_file(rt.alloc(), &row.machine));
         let ran = run_on(rt, rt.alloc(), &file, Word::Walk);
         let errors = text_of(rt, &ran.errors.bytes);
-        let text = row.text;
-        assert!(rt; errors.starts_with(text), "{text}: {errors}");
+        assert_equal_in(rt, errors, errors.starts_with(row.text), true);
     }
 }

@@ -1,11 +1,11 @@
 //! Runs of the program, and how they end.
+use crate::prelude::*;
 use ptdump_engine::{
     AreaNames, Checking, Columns, Command, ControlsSource, Destination, Failure, Form, Outcome,
     Progress, Request, Selection, WalkOptions, run,
 };
-use std::alloc::{AllocError, Global};
+use std::alloc::AllocError;
 use std::io::{self, ErrorKind, Write};
-use std::process::Abort;
 use x86_64_access::Controls;
 use x86_64_dump::{ByteSource, Placement};
 
@@ -206,20 +206,16 @@ impl Progress for Watcher {
     ghost both = { λ _ _ _ _ _ _ _. tt };
 }
 
-/// Returns the value, for which memory allocation doesn't fail.
-pub fn unwrap<T: Drop>(rt: impl Abort + Copy, value: Result<T, AllocError>) -> T {
-    match value {
-        Ok(value) => value,
-        Err(_) => panic!(rt; "out of memory"),
-    }
-}
-
 /// Returns bytes as text.
 pub fn text_of<'a>(rt: impl Abort + Copy, bytes: &'a [u8]) -> &'a str {
-    match str::from_utf8(bytes) {
-        Ok(text) => text,
-        Err(_) => panic!(rt; "no text was written"),
-    }
+    unwrap(rt, str::from_utf8(bytes))
+}
+
+/// Asserts that standard error tells this number of tables.
+fn assert_told(rt: impl Abort + Copy, alloc: Global, errors: &[u8], tables: usize) {
+    let told = unwrap(rt, format!(in alloc; "tables {tables}, "));
+    let is_told = text_of(rt, errors).contains(&told);
+    assert_equal_in(rt, tables, is_told, true);
 }
 
 /// Runs the program with these writers, and compares the observed number of tables with the reported one.
@@ -245,15 +241,10 @@ pub fn run_into<S: ByteSource>(
         &mut errors,
         &mut watcher,
     );
-    assert!(rt; watcher.is_in_order, "{word:?}");
+    assert_equal_in(rt, word, watcher.is_in_order, true);
     if ended.is_ok() {
-        assert_eq!(rt; watcher.ends, 1, "{word:?}");
-        let count = watcher.count;
-        let told = unwrap(rt, format!(in alloc; "tables {count}, "));
-        assert!(rt;
-            text_of(rt, &errors.bytes).contains(&told),
-            "{word:?}: {told}"
-        );
+        assert_equal_in(rt, word, watcher.ends, 1);
+        assert_told(rt, alloc, &errors.bytes, watcher.count);
     }
     Ran {
         output,
