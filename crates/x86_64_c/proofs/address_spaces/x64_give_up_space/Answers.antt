@@ -23,6 +23,6 @@ returns-in-Err-FrameZero g c =
 
 pub enter-requires : goal.enter-requires
 enter-requires g c = λ right. (
-      (rw c.of.ensures c.requires.0.room, rw c.of.ensures (c.requires.0.fits right)),
-      rw c.of.ensures c.requires.1,
-    )
+  (rw c.of.ensures c.requires.0.room, rw c.of.ensures (c.requires.0.fits right)),
+  rw c.of.ensures c.requires.1,
+)

@@ -43,9 +43,11 @@ execute-requires g c =
     let asked = but_asked (g.O.Operation.wrong c.args.operation.now) h tables L (length c.args.array.now) good c.requires.levels in
     let places = ap g.P.PageTableFrameMapping.places c.in-Some.ensures.mapping ∙ c.requires.places in
     let same = located_in h tables L _ _ _ c.requires.levels places c.in-Some.ensures.root c.new-memory.ensures.tables in
-    record { may = λ right.
-      subst (λ there. g.O.Operation.may c.args.operation.now there c.args.array.now) (sym same)
-          (c.requires.may (asked ∙ rw c.new-memory.ensures.tables at right)) }
+    record {
+      may = λ right.
+          subst (λ there. g.O.Operation.may c.args.operation.now there c.args.array.now) (sym same)
+          (c.requires.may (asked ∙ rw c.new-memory.ensures.tables at right));
+    }
 
 pub returns-clause-bad : goal.returns-clause-bad
 returns-clause-bad g c =
