@@ -1,4 +1,5 @@
-use Rattle.std.proofs.Common.{rules, ◌≡◌, ◌∙◌, ℕ, [], ◌∷◌, length, sym, ap, subst, subst₂, arith}
+use Rattle.std.proofs.Common.{rules, ◌≡◌, ◌∙◌, ℕ, [], ◌∷◌, length, refl, sym, ap, subst, subst₂, arith}
+use Rattle.std.proofs.lemmas.Result.{err_from_is_err_and}
 use Rattle.x86_64_model.specs.Hierarchy.{◌laid_in◌, Valid}
 use Rattle.x86_64_model.specs.Memory.{Memory, identity_places}
 use Rattle.x86_64_tables.specs.ActiveMemory.{memory_of}
@@ -81,3 +82,11 @@ returns-clause-twin g c =
     let also = lies_recursively levels c.args.index _ _ _ _ _ c.root-2.ensures c.new-active.ensures.cr3 c.new-active.ensures.memory c.new_unchecked-recursive.ensures.layout in
     twin_after levels c.args.index _ _ _ _ c.args.frames.now.pool c.run_pair.new.pool_a c.args.twin.now.pool c.run_pair.new.pool_b c.args.twin.now.memory c.drop-direct-2.new.self.0 _
     lies also c.run_pair.ensures.one.keeps c.run_pair.ensures.other.keeps c.run_pair.ensures.alike c.drop-direct-2.ensures.memory (search rules)
+
+pub returns-in_err-calls-clause-unchanged : goal.returns-in_err-calls-clause-unchanged
+returns-in_err-calls-clause-unchanged g c =
+    let e = err_from_is_err_and c.from_residual.result c.from_residual.ensures.1 in
+    rw e.1 (refl, refl)
+
+pub returns-in_err-calls-clause-twin : goal.returns-in_err-calls-clause-twin
+returns-in_err-calls-clause-twin g c = c.requires.twin

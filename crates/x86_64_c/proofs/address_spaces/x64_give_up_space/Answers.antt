@@ -20,3 +20,9 @@ returns-in-Err-FrameZero g c =
     let kept = rw c.in-Err-FrameZero.is at c.in-Ok.ensures.does in
     absurd (is_zero g.own h c.args.tables.now c.enter.new.tables c.args.pool.now c.enter.new.array c.args.free_count.now c.in-Ok.given_up.free_count from to kept.1 kept.2 kept.3 c.in-Ok.ensures.good
     c.in-Err-FrameZero.field-0 (rw c.in-Err-FrameZero.is at c.in-Err-FrameZero.field-0-is) kept.0)
+
+pub enter-requires : goal.enter-requires
+enter-requires g c = λ right. (
+  (rw c.of.ensures c.requires.0.room, rw c.of.ensures (c.requires.0.fits right)),
+  rw c.of.ensures c.requires.1,
+)

@@ -1,10 +1,32 @@
-use Rattle.std.proofs.Common.{rules}
+use Rattle.std.proofs.Common.{arith, rules, ◌≡◌, ◌≤◌, ℕ, None}
+use Rattle.std.proofs.lemmas.Bool.Decides.{nat_tests}
 use Rattle.x86_64_model.specs.Call.{SetFlags}
 use Rattle.x86_64_mappers.specs.Layouts.{direct_at}
 use Rattle.x86_64_tables.specs.MapperAnswers.{flags_answer}
 use Rattle.x86_64_tables.specs.PageTableFlags.{bits_of}
+use Rattle.x86_64_c.specs.Arguments.{unless}
+use Rattle.x86_64_c.specs.Calls.{is_table_level}
+use Rattle.x86_64_c.specs.Status.{bad_levels}
 use Rattle.x86_64_c.proofs.EntryChanges.{changes, is_page_level, plain}
 use Rattle.x86_64_c.proofs.changes.FlagsOfTableEntryChange.make.Goals as goal
+
+from_two : (L level : ℕ) → unless (is_table_level L level) bad_levels ≡ None → 2 ≤ level
+from_two L level good = grind (arith, nat_tests)
+
+up_to : (L level : ℕ) → unless (is_table_level L level) bad_levels ≡ None → level ≤ L
+up_to L level good = grind (arith, nat_tests)
+
+pub may_set-requires-clause-low : goal.may_set-requires-clause-low
+may_set-requires-clause-low g c = from_two g.L.LevelCount.LEVELS c.args.self.now.level c.requires.good
+
+pub may_set-requires-clause-high : goal.may_set-requires-clause-high
+may_set-requires-clause-high g c = up_to g.L.LevelCount.LEVELS c.args.self.now.level c.requires.good
+
+pub set_table_flags-set-requires-clause-low : goal.set_table_flags-set-requires-clause-low
+set_table_flags-set-requires-clause-low g c = from_two g.L.LevelCount.LEVELS c.args.self.now.level c.requires.good
+
+pub set_table_flags-set-requires-clause-high : goal.set_table_flags-set-requires-clause-high
+set_table_flags-set-requires-clause-high g c = up_to g.L.LevelCount.LEVELS c.args.self.now.level c.requires.good
 
 pub returns-clause-makes : goal.returns-clause-makes
 returns-clause-makes g c =

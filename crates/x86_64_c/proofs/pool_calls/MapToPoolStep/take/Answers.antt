@@ -1,4 +1,4 @@
-use Rattle.std.proofs.Common.{sym, ◌∙◌, rules}
+use Rattle.std.proofs.Common.{true≢false, sym, ◌∙◌, rules}
 use Rattle.x86_64_model.specs.Call.{MapToWithTableFlags}
 use Rattle.x86_64_model.proofs.Lemmas.Machines.Giving.{giving_from}
 use Rattle.x86_64_mappers.specs.Layouts.{direct_at}
@@ -34,3 +34,9 @@ map_to_with_table_flags-mapped-requires g c = record {
   fits = supply_over _ _ _ _ c.new-mapper.ensures.layout c.new-mapper.ensures.memory _ _ c.requires.fits;
   allowed = sym c.map_allowed.ensures ∙ c.if-not-map_allowed.false;
 }
+
+pub returns-clause-unchanged : goal.returns-clause-unchanged
+returns-clause-unchanged g c = λ never. absurd (true≢false (sym never))
+
+pub returns-clause-serves : goal.returns-clause-serves
+returns-clause-serves g c = c.map_to_with_table_flags-mapped.ensures.does.serves

@@ -1,0 +1,23 @@
+use Rattle.std.proofs.Common.{◌≡◌, ◌≤◌, ◌∙◌, ℕ, Option, refl}
+use Rattle.std.proofs.lemmas.Bool.{le-leb}
+use Rattle.std.proofs.lemmas.Result.{err_from_is_err_and}
+use Rattle.x86_64_c.specs.PoolCalls.{bad_pool}
+use Rattle.x86_64_c.proofs.ranges.MapFromOperation.execute.Goals as goal
+
+-- with room for the free frames only what else is asked can be wrong
+with_room : (free capacity : ℕ) (other : Option ℕ) → free ≤ capacity → bad_pool free capacity other ≡ other
+with_room free capacity other room = rw (le-leb free capacity room) refl
+
+pub returns-in_err-page-clause-bad : goal.returns-in_err-page-clause-bad
+returns-in_err-page-clause-bad g c =
+    let e = err_from_is_err_and c.from_residual.result c.from_residual.ensures.1 in
+    rw e.1 (with_room _ _ _ c.if-array-self.false ∙ rw (c.in_err-page.ensures.bad, e.2) refl)
+
+pub map_from-requires-clause-fits : goal.map_from-requires-clause-fits
+map_from-requires-clause-fits g c = λ right. c.requires.may (with_room _ _ _ c.if-array-self.false ∙ right)
+
+pub map_from-requires-in-Of2MiB-clause-fits : goal.map_from-requires-in-Of2MiB-clause-fits
+map_from-requires-in-Of2MiB-clause-fits g c = λ right. c.requires.may (with_room _ _ _ c.if-array-self.false ∙ right)
+
+pub map_from-requires-in-Of1GiB-clause-fits : goal.map_from-requires-in-Of1GiB-clause-fits
+map_from-requires-in-Of1GiB-clause-fits g c = λ right. c.requires.may (with_room _ _ _ c.if-array-self.false ∙ right)
