@@ -17,4 +17,4 @@ pub returns-clause-word : goal.returns-clause-word
 returns-clause-word g c =
     let e = c.args.entry.now in
     c.set_flags.ensures ∙ ap (bit_or (address e)) c.leaf_flags.ensures
-        ∙ ap (λ is_page. word_said e (says g.S.PageSize.LEVEL c.args.flags.0 e is_page)) (sym c.if-not-maps_page.false ∙ c.maps_page.ensures)
+    ∙ ap (λ is_page. word_said e (says g.S.PageSize.LEVEL c.args.flags.0 e is_page)) (sym c.if-not-maps_page.false ∙ c.maps_page.ensures)
