@@ -134,3 +134,99 @@ returns-in-CleanUp-clause-items g c = nothing_recorded g.K.Tokens.records _
 
 pub returns-in-CleanUpRange-clause-items : goal.returns-in-CleanUpRange-clause-items
 returns-in-CleanUpRange-clause-items g c = nothing_recorded g.K.Tokens.records _
+
+pub returns-in-Some-clause-still : goal.returns-in-Some-clause-still
+returns-in-Some-clause-still g c = c.in-Some.ensures.still
+
+pub returns-in-Some-clause-items : goal.returns-in-Some-clause-items
+returns-in-Some-clause-items g c = c.in-Some.ensures.items
+
+pub returns-in-Some-clause-keeps : goal.returns-in-Some-clause-keeps
+returns-in-Some-clause-keeps g c = c.serve_page.ensures.keeps
+
+pub returns-in-Some-clause-room : goal.returns-in-Some-clause-room
+returns-in-Some-clause-room g c = c.serve_page.ensures.room
+
+pub returns-in-None-clause-still : goal.returns-in-None-clause-still
+returns-in-None-clause-still g c = c.in-None.ensures.still
+
+pub returns-in-None-clause-items : goal.returns-in-None-clause-items
+returns-in-None-clause-items g c = c.in-None.ensures.items
+
+pub returns-in-None-clause-keeps : goal.returns-in-None-clause-keeps
+returns-in-None-clause-keeps g c = c.serve_page.ensures.keeps
+
+pub returns-in-None-clause-room : goal.returns-in-None-clause-room
+returns-in-None-clause-room g c = c.serve_page.ensures.room
+
+pub returns-in-Some-serve_page-clause-still : goal.returns-in-Some-serve_page-clause-still
+returns-in-Some-serve_page-clause-still g c = c.in-Some-serve_page.ensures.still
+
+pub returns-in-Some-serve_page-clause-items : goal.returns-in-Some-serve_page-clause-items
+returns-in-Some-serve_page-clause-items g c = c.in-Some-serve_page.ensures.items
+
+pub returns-in-Some-serve_page-clause-keeps : goal.returns-in-Some-serve_page-clause-keeps
+returns-in-Some-serve_page-clause-keeps g c = c.serve_page-in-Of2MiB.ensures.keeps
+
+pub returns-in-Some-serve_page-clause-room : goal.returns-in-Some-serve_page-clause-room
+returns-in-Some-serve_page-clause-room g c = c.serve_page-in-Of2MiB.ensures.room
+
+pub returns-in-None-serve_page-clause-still : goal.returns-in-None-serve_page-clause-still
+returns-in-None-serve_page-clause-still g c = c.in-None-serve_page.ensures.still
+
+pub returns-in-None-serve_page-clause-items : goal.returns-in-None-serve_page-clause-items
+returns-in-None-serve_page-clause-items g c = c.in-None-serve_page.ensures.items
+
+pub returns-in-None-serve_page-clause-keeps : goal.returns-in-None-serve_page-clause-keeps
+returns-in-None-serve_page-clause-keeps g c = c.serve_page-in-Of2MiB.ensures.keeps
+
+pub returns-in-None-serve_page-clause-room : goal.returns-in-None-serve_page-clause-room
+returns-in-None-serve_page-clause-room g c = c.serve_page-in-Of2MiB.ensures.room
+
+pub returns-in-Some-serve_page-2-clause-still : goal.returns-in-Some-serve_page-2-clause-still
+returns-in-Some-serve_page-2-clause-still g c = c.in-Some-serve_page-2.ensures.still
+
+pub returns-in-Some-serve_page-2-clause-items : goal.returns-in-Some-serve_page-2-clause-items
+returns-in-Some-serve_page-2-clause-items g c = c.in-Some-serve_page-2.ensures.items
+
+pub returns-in-Some-serve_page-2-clause-keeps : goal.returns-in-Some-serve_page-2-clause-keeps
+returns-in-Some-serve_page-2-clause-keeps g c = c.serve_page-in-Of1GiB.ensures.keeps
+
+pub returns-in-Some-serve_page-2-clause-room : goal.returns-in-Some-serve_page-2-clause-room
+returns-in-Some-serve_page-2-clause-room g c = c.serve_page-in-Of1GiB.ensures.room
+
+pub returns-in-None-serve_page-2-clause-still : goal.returns-in-None-serve_page-2-clause-still
+returns-in-None-serve_page-2-clause-still g c = c.in-None-serve_page-2.ensures.still
+
+pub returns-in-None-serve_page-2-clause-items : goal.returns-in-None-serve_page-2-clause-items
+returns-in-None-serve_page-2-clause-items g c = c.in-None-serve_page-2.ensures.items
+
+pub returns-in-None-serve_page-2-clause-keeps : goal.returns-in-None-serve_page-2-clause-keeps
+returns-in-None-serve_page-2-clause-keeps g c = c.serve_page-in-Of1GiB.ensures.keeps
+
+pub returns-in-None-serve_page-2-clause-room : goal.returns-in-None-serve_page-2-clause-room
+returns-in-None-serve_page-2-clause-room g c = c.serve_page-in-Of1GiB.ensures.room
+
+pub returns-in-Translate-clause-still : goal.returns-in-Translate-clause-still
+returns-in-Translate-clause-still g c = λ _. refl
+
+pub returns-in-TranslateAddr-clause-still : goal.returns-in-TranslateAddr-clause-still
+returns-in-TranslateAddr-clause-still g c = λ _. refl
+
+pub returns-in-Translate-clause-room : goal.returns-in-Translate-clause-room
+returns-in-Translate-clause-room g c = g.K.Tokens.fewer c.args.tokens.now
+
+pub returns-in-TranslateAddr-clause-room : goal.returns-in-TranslateAddr-clause-room
+returns-in-TranslateAddr-clause-room g c = g.K.Tokens.fewer c.args.tokens.now
+
+pub returns-in-CleanUp-clause-room : goal.returns-in-CleanUp-clause-room
+returns-in-CleanUp-clause-room g c = g.K.Tokens.fewer c.args.tokens.now
+
+pub returns-in-CleanUpRange-clause-room : goal.returns-in-CleanUpRange-clause-room
+returns-in-CleanUpRange-clause-room g c = g.K.Tokens.fewer c.args.tokens.now
+
+pub returns-in-CleanUp-clause-still : goal.returns-in-CleanUp-clause-still
+returns-in-CleanUp-clause-still g c = λ e. cc
+
+pub returns-in-CleanUpRange-clause-still : goal.returns-in-CleanUpRange-clause-still
+returns-in-CleanUpRange-clause-still g c = λ e. cc

@@ -48,3 +48,21 @@ returns-clause-other g c = record { ran = (pair_after g c).ran; keeps = c.serve_
 
 pub returns-clause-alike : goal.returns-clause-alike
 returns-clause-alike g c = (pair_after g c).alike
+
+pub returns-clause-one : goal.returns-clause-one
+returns-clause-one g c =
+    let h = g.A.Tables.hierarchy c.args.a.now in
+    let asks = to_call g.L.LevelCount.LEVELS g.P5.LevelFiveFlags.bits in
+    record {
+      ran = from_none asks h c.args.pool_a.now c.args.calls.now _ _ _ _ c.in_ok-replies.ensures.items c.serve_all.ensures.ran;
+      keeps = c.serve_all.ensures.keeps;
+    }
+
+pub returns-clause-refused : goal.returns-clause-refused
+returns-clause-refused g c = tt
+
+pub returns-in_err-replies-clause-alike : goal.returns-in_err-replies-clause-alike
+returns-in_err-replies-clause-alike g c = c.requires.alike
+
+pub returns-in_err-same_replies-clause-alike : goal.returns-in_err-same_replies-clause-alike
+returns-in_err-same_replies-clause-alike g c = c.requires.alike

@@ -1,13 +1,47 @@
-use Rattle.std.proofs.Common.{◌≡◌, ◌<◌, inl, inr, bit_or, refl, sym, ap, ◌∙◌, subst, false, arith, get_or, length}
+use Rattle.std.proofs.Common.{◌≡◌, ◌<◌, ℕ, Bool, List, if◌then◌else◌, Result, Ok, Err, inl, inr, bit_or, refl, sym, ap, ◌∙◌, subst, true, false, arith, get_or, length}
 use Rattle.std.proofs.lemmas.List.{get_or_read}
-use Rattle.x86_64_model.specs.Entry.{used}
+use Rattle.x86_64_model.specs.Entry.{address, huge, used}
 use Rattle.x86_64_model.specs.Layout.{Layout}
 use Rattle.x86_64_model.specs.Hierarchy.{◌laid_in◌, words}
-use Rattle.x86_64_model.specs.Memory.{word}
+use Rattle.x86_64_model.specs.Memory.{Memory, Places, word}
+use Rattle.x86_64_model.specs.Refusal.{Refusal, ParentEntryHugePage}
+use Rattle.x86_64_mappers.specs.private.Writes.{IsSet, IsTableMade, word_in_frame}
 use Rattle.x86_64_mappers.proofs.Memory.EntryWrites.{unchanged, supply_first, supply_empty}
 use Rattle.x86_64_mappers.proofs.Map.Linking.{may_still, taken_linked}
 use Rattle.x86_64_mappers.proofs.Map.OpenWays.{open_reached, may_link}
 use Rattle.x86_64_mappers.proofs.walk.map.create_next_table.Goals as goal
+
+used_made : (places : Places) (m : Memory) (supply : List ℕ) (more added table index : ℕ) (n : Memory) → used (word_in_frame places m table index) ≡ true
+    → IsSet places m table index (bit_or (word_in_frame places m table index) more) n → (is_huge : Bool) → huge (word_in_frame places m table index) ≡ is_huge
+    → IsTableMade places more added m supply table index (if is_huge then Err ParentEntryHugePage else Ok (address (word_in_frame places m table index))) n supply
+used_made places m supply more added table index n u set true is = (record { is_used = u; is_set = set }, is, refl)
+used_made places m supply more added table index n u set false is = inl (record { is_used = u; is_set = set }, is, refl, refl)
+
+marked_made : (places : Places) (m : Memory) (supply : List ℕ) (more added table j i entry new : ℕ) (made : Result ℕ Refusal) (n : Memory) → j ≡ i
+    → entry ≡ word_in_frame places m table j → used entry ≡ true → made ≡ (if huge entry then Err ParentEntryHugePage else Ok (address entry))
+    → new ≡ bit_or entry more → IsSet places m table j new n → IsTableMade places more added m supply table i made n supply
+marked_made places m supply more added table j i entry new made n item is u names marked set =
+    let here = word_in_frame places m table j in
+    let named = names ∙ ap (λ e. if huge e then Err ParentEntryHugePage else Ok (address e)) is in
+    let wrote = subst (λ w. IsSet places m table j w n) (marked ∙ ap (λ e. bit_or e more) is) set in
+    subst (λ i. IsTableMade places more added m supply table i made n supply) item
+    (subst (λ made. IsTableMade places more added m supply table j made n supply) (sym named)
+    (used_made places m supply more added table j n (ap used (sym is) ∙ u) wrote (huge here) refl))
+
+pub returns-then-not-is_unused-clause-made : goal.returns-then-not-is_unused-clause-made
+returns-then-not-is_unused-clause-made g c =
+    let l = (g.M.Tables.hierarchy c.args.mapper.now).layout in
+    let m = (g.M.Tables.hierarchy c.args.mapper.now).memory in
+    let j = c.index-parents-k.result in
+    let entry = c.entry_mut-entry in
+    let new = c.mark_parent.new.entry in
+    let item = get_or_read c.args.parents.now c.args.k j c.requires.within c.index-parents-k.is 0 in
+    let u : used entry.result.now ≡ true = (let e = c.is_unused.ensures in let t = c.if-not-is_unused.true in grind arith) in
+    record {
+      is = marked_made l.places m _ c.args.parent_flags.0 l.added_flags c.args.table j _ entry.result.now new _ _ item entry.ensures.value u
+          c.mark_parent.ensures.names c.mark_parent.ensures.marked (entry.ensures.set new);
+      serves = refl;
+    }
 
 pub entry_mut-entry-requires-clause-reached : goal.entry_mut-entry-requires-clause-reached
 entry_mut-entry-requires-clause-reached g c =
