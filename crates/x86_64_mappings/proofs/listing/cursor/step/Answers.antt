@@ -1,13 +1,10 @@
-use Rattle.std.proofs.Common.{ℕ, ◌+◌, ◌*◌, ◌≡◌, ◌<◌, ◌≤◌, ◌&&◌, false, length, get_or, Some, None, sym, ap, ◌∙◌, subst, arith}
-use Rattle.std.proofs.Math.Pow.{pow_mono}
+use Rattle.std.proofs.Common.{◌≡◌, ◌<◌, ◌≤◌, ◌&&◌, false, length, get_or, Some, None, sym, ap, ◌∙◌, subst, arith}
 use Rattle.x86_64_model.specs.Entry.{present}
 use Rattle.x86_64_model.specs.Mappings.{maps_page, granted}
-use Rattle.x86_64_model.specs.Memory.{Words, words_of}
-use Rattle.x86_64_model.specs.Position.{position_count}
+use Rattle.x86_64_model.specs.Memory.{words_of}
 use Rattle.x86_64_tables.specs.EntryTargets.{target_of}
-use Rattle.x86_64_mappings.specs.declared.listing.cursor.Cursor.{Cursor}
-use Rattle.x86_64_mappings.specs.private.Cursors.{IsCursor, position_past, table_by}
-use Rattle.x86_64_mappings.proofs.Entries.{within}
+use Rattle.x86_64_mappings.specs.private.Cursors.{table_by}
+use Rattle.x86_64_mappings.proofs.Entries.{past_fits}
 use Rattle.x86_64_mappings.proofs.Steps.{there_first, past_absent, past_unmapped, past_step, on_below, below_step}
 use Rattle.x86_64_mappings.proofs.listing.cursor.step.Goals as goal
 
@@ -51,20 +48,16 @@ returns-in-None g c =
     c.past-in-None.ensures.next c.past-in-None.ensures.level c.past-in-None.ensures.rights c.past-in-None.ensures.rest
     (past_unmapped L words c.args.root from.next from.level from.rights from.rest.now c.requires.on some no_page none)
 
--- the position past some of the remaining entries fits
-past_fits : (L : ℕ) (T : Words) (root : ℕ) (from : Cursor) (k : ℕ) → L ≤ 5 → IsCursor L T root from → k ≤ length from.rest.now → position_past from.level from.next k ≤ position_count 5
-past_fits L T root from k five on few =
-    let inside = within L T root from.next from.level from.rights from.rest.now on k few in
-    let fits : position_count L ≤ position_count 5 = pow_mono {j = 57} (let e : 12 + 9 * L ≤ 57 = omega (arith, five) in e) in
-    omega (arith, inside, fits)
-
 pub past-requires-clause-room : goal.past-requires-clause-room
 past-requires-clause-room g c =
     let words = words_of (g.T.TableMemory.tables c.args.memory.now) (g.P.PageTableFrameMapping.places c.args.mapping.now) in
-    past_fits g.L.LevelCount.LEVELS words c.args.root c.args.cursor.now c.count_absent-absent.result g.L.LevelCount.at_most_five c.requires.on c.count_absent-absent.ensures.within
+    let from = c.args.cursor.now in
+    past_fits g.L.LevelCount.LEVELS words c.args.root from.next from.level from.rights from.rest.now c.requires.on
+    g.L.LevelCount.at_most_five c.count_absent-absent.result c.count_absent-absent.ensures.within
 
 pub past-requires-in-None-clause-room : goal.past-requires-in-None-clause-room
 past-requires-in-None-clause-room g c =
     let words = words_of (g.T.TableMemory.tables c.args.memory.now) (g.P.PageTableFrameMapping.places c.args.mapping.now) in
-    let some : 0 < length c.args.cursor.now.rest.now = c.in-Some.ensures.item.3.0 in
-    past_fits g.L.LevelCount.LEVELS words c.args.root c.args.cursor.now 1 g.L.LevelCount.at_most_five c.requires.on (omega (arith, some))
+    let from = c.args.cursor.now in
+    let some : 0 < length from.rest.now = c.in-Some.ensures.item.3.0 in
+    past_fits g.L.LevelCount.LEVELS words c.args.root from.next from.level from.rights from.rest.now c.requires.on g.L.LevelCount.at_most_five 1 (omega (arith, some))
