@@ -4,6 +4,7 @@ use Rattle.std.proofs.lemmas.Bool.{cases_lt}
 use Rattle.std.proofs.lemmas.List.{get_or-drop, length-drop}
 use Rattle.std.proofs.lemmas.Nat.{le-div}
 use Rattle.std.proofs.Math.Nat.{add-mul, div-eq_of_lt, div-lt_iff_lt-mul, mul-div_left, mul-le-mul_right}
+use Rattle.std.proofs.Math.Pow.{pow_mono}
 use Rattle.x86_64_model.specs.Entry.{present, huge, address}
 use Rattle.x86_64_model.specs.Memory.{Words}
 use Rattle.x86_64_model.specs.PageWalk.{read}
@@ -98,6 +99,13 @@ module _ (L : ℕ) (T : Words) (root next level : ℕ) (r : Rights) (rest : List
 
   pub within : (k : ℕ) → k ≤ length rest → next / s * s + k * s ≤ position_count L
   within k few = let most : k * s ≤ length rest * s = mul-le-mul_right s few in let room = on.room in omega (arith, most, room)
+
+  -- the position past some of them fits
+  pub past_fits : L ≤ 5 → (k : ℕ) → k ≤ length rest → next / s * s + k * s ≤ position_count 5
+  past_fits five k few =
+      let inside = within k few in
+      let fits : position_count L ≤ position_count 5 = pow_mono {j = 57} (let e : 12 + 9 * L ≤ 57 = omega (arith, five) in e) in
+      omega (arith, inside, fits)
 
   -- if entries remain, the position is within the address space
   pub next_inside : 0 < length rest → next < position_count L

@@ -1,5 +1,5 @@
 use Rattle.std.proofs.Common.{rules, ◌≡◌, ◌∙◌, ◌<◌, ◌++◌, ℕ, [], get_or, length, take, None, sym, ap}
-use Rattle.std.proofs.lemmas.List.{get_or-map, get_or_read}
+use Rattle.std.proofs.lemmas.List.{get_or-map, get_or_read, take_all}
 use Rattle.std.specs.List.{cons_option, filter_map}
 use Rattle.ptdump_check.specs.ReachedTables.{reached_at}
 use Rattle.ptdump_check.proofs.Found.{filter_more}
@@ -20,3 +20,7 @@ loop-i-preserved c = λ w m ws ms.
     ∙ ap (λ fs. fs ++ cons_option c.of_reached-finding.result []) (c.loop-i.invariant w m ws ms)
     ∙ ap (λ o. filter_map (λ f. reached_at f (w f) (m f)) (take i frames) ++ cons_option o []) is
     ∙ sym (filter_more (λ f. reached_at f (w f) (m f)) frames i 0 less)
+
+pub returns : goal.returns
+returns c = λ w m ws ms.
+    c.loop-i.invariant w m ws ms ∙ ap (filter_map (λ f. reached_at f (w f) (m f))) (take_all c.loop-i.i c.args.frames.now c.loop-i-test.false)

@@ -37,3 +37,10 @@ returns g c =
       rights = c.loop-step.invariant.0.rights_are ∙ ap rights_in read;
       end = c.loop-step.invariant.2 ∙ ap end_of read;
     }
+
+pub overflow_add-count : goal.overflow_add-count
+overflow_add-count g c =
+    let words = words_of (g.T.TableMemory.tables c.args.memory.now) (g.P.PageTableFrameMapping.places c.args.mapping.now) in
+    let all : c.into_iter-step-iterator.result ≡ steps words c.args.address g.L.LevelCount.LEVELS c.args.root = search rules in
+    let room = room_for_more _ _ _ _ _ _ _ _ _ _ _ _ _ _ all c.loop-step.invariant.0 c.loop-step.invariant.1 c.in-Some.ensures.steps c.requires in
+    omega (arith, room, c.loop-step.auto.entries)

@@ -4,7 +4,7 @@ use Rattle.x86_64_model.specs.Memory.{words_of}
 use Rattle.x86_64_model.specs.Position.{position_count}
 use Rattle.x86_64_model.specs.private.Found.{page_at}
 use Rattle.x86_64_mappings.specs.private.Cursors.{listed_from}
-use Rattle.x86_64_mappings.proofs.Entries.{on_past}
+use Rattle.x86_64_mappings.proofs.Entries.{on_past, past_fits}
 use Rattle.x86_64_mappings.proofs.Steps.{small_first, there_first, there_last, page_first, none_last, goes_first}
 use Rattle.x86_64_mappings.proofs.listing.MappingsInIterator.next.Goals as goal
 
@@ -69,3 +69,19 @@ returns-clause-steps g c =
 
 pub returns-clause-goes : goal.returns-clause-goes
 returns-clause-goes g c = goes_first _ _ _ (returns-clause-steps g c)
+
+pub past-self-inside-requires-clause-room : goal.past-self-inside-requires-clause-room
+past-self-inside-requires-clause-room g c =
+    let s = c.self.inside in
+    let words = words_of (g.T.TableMemory.tables s.memory.now) (g.P.PageTableFrameMapping.places s.mapping.now) in
+    let at = s.cursor in
+    let small = small_first at.level at.rest.now (sym c.if-is_at_small_page.ensures) in
+    past_fits g.L.LevelCount.LEVELS words s.root at.next at.level at.rights at.rest.now c.self.invariant g.L.LevelCount.at_most_five 1 (let some = small.some in omega (arith, some))
+
+pub past-self-inside-requires-2-clause-room : goal.past-self-inside-requires-2-clause-room
+past-self-inside-requires-2-clause-room g c =
+    let s = c.self.inside in
+    let words = words_of (g.T.TableMemory.tables s.memory.now) (g.P.PageTableFrameMapping.places s.mapping.now) in
+    let at = c.find_page.new.cursor in
+    let some : 0 < length at.rest.now = c.in-Some.ensures.item.3.0 in
+    past_fits g.L.LevelCount.LEVELS words s.root at.next at.level at.rights at.rest.now c.find_page.ensures.on g.L.LevelCount.at_most_five 1 (omega (arith, some))

@@ -4,6 +4,7 @@ use Rattle.x86_64_model.specs.Mappings.{maps_page, granted}
 use Rattle.x86_64_model.specs.Memory.{words_of}
 use Rattle.x86_64_tables.specs.EntryTargets.{target_of}
 use Rattle.x86_64_mappings.specs.private.Cursors.{table_by}
+use Rattle.x86_64_mappings.proofs.Entries.{past_fits}
 use Rattle.x86_64_mappings.proofs.Steps.{there_first, past_absent, past_unmapped, past_step, on_below, below_step}
 use Rattle.x86_64_mappings.proofs.listing.cursor.step.Goals as goal
 
@@ -46,3 +47,17 @@ returns-in-None g c =
     past_step L words c.args.root from c.past-in-None.result g.L.LevelCount.at_most_five c.requires.on 1 (omega arith) (omega (arith, some))
     c.past-in-None.ensures.next c.past-in-None.ensures.level c.past-in-None.ensures.rights c.past-in-None.ensures.rest
     (past_unmapped L words c.args.root from.next from.level from.rights from.rest.now c.requires.on some no_page none)
+
+pub past-requires-clause-room : goal.past-requires-clause-room
+past-requires-clause-room g c =
+    let words = words_of (g.T.TableMemory.tables c.args.memory.now) (g.P.PageTableFrameMapping.places c.args.mapping.now) in
+    let from = c.args.cursor.now in
+    past_fits g.L.LevelCount.LEVELS words c.args.root from.next from.level from.rights from.rest.now c.requires.on
+    g.L.LevelCount.at_most_five c.count_absent-absent.result c.count_absent-absent.ensures.within
+
+pub past-requires-in-None-clause-room : goal.past-requires-in-None-clause-room
+past-requires-in-None-clause-room g c =
+    let words = words_of (g.T.TableMemory.tables c.args.memory.now) (g.P.PageTableFrameMapping.places c.args.mapping.now) in
+    let from = c.args.cursor.now in
+    let some : 0 < length from.rest.now = c.in-Some.ensures.item.3.0 in
+    past_fits g.L.LevelCount.LEVELS words c.args.root from.next from.level from.rights from.rest.now c.requires.on g.L.LevelCount.at_most_five 1 (omega (arith, some))
