@@ -1,4 +1,5 @@
 use Rattle.std.proofs.Common.{◌≡◌, ◌∙◌, ◌++◌, List, String, IfSome, sym, ap, subst}
+use Rattle.std.proofs.lemmas.Result.{err_from_is_err_and}
 use Rattle.std.specs.FinMap.{len}
 use Rattle.std.specs.Io.KnownBytes.{Appends}
 use Rattle.x86_64_dump.specs.Dump.{words_of_dump}
@@ -13,6 +14,7 @@ use Rattle.ptdump_engine.specs.Totals.{IsMappedMemory, totals_text}
 use Rattle.ptdump_json.specs.Walks.{line}
 use Rattle.ptdump_engine.specs.declared.output.Output.{Output}
 use Rattle.ptdump_check.proofs.SameTables.{same_tables}
+use Rattle.ptdump_engine.proofs.Failing.{second_write}
 use Rattle.ptdump_engine.proofs.SameLines.{same_note}
 use Rattle.ptdump_engine.proofs.Wholly.{puts_both, same_report, same_completeness, written_rest}
 use Rattle.ptdump_engine.proofs.Turns.{told_once}
@@ -95,3 +97,13 @@ returns-in_err-write_totals-clause-counted g c = counted g (goal.at.returns-in_e
 
 pub returns-clause-counted : goal.returns-clause-counted
 returns-clause-counted g c = counted g (goal.at.returns-clause-counted g c).After-end
+
+pub returns-in_err-write_reserved-clause-errors : goal.returns-in_err-write_reserved-clause-errors
+returns-in_err-write_reserved-clause-errors g c =
+    let e = err_from_is_err_and c.from_residual-in_err-write_reserved.result c.from_residual-in_err-write_reserved.ensures.1 in
+    rw e.1 (second_write g.S.ByteSource.may_fail g.W.Destination.may_refuse g.E.Destination.may_refuse e.0 e.2.0)
+
+pub returns-in_err-write_totals-clause-errors : goal.returns-in_err-write_totals-clause-errors
+returns-in_err-write_totals-clause-errors g c =
+    let e = err_from_is_err_and c.from_residual-in_err-write_totals.result c.from_residual-in_err-write_totals.ensures.1 in
+    rw e.1 (second_write g.S.ByteSource.may_fail g.W.Destination.may_refuse g.E.Destination.may_refuse e.0 e.2.0)

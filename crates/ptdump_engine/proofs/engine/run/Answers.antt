@@ -1,5 +1,6 @@
-use Rattle.std.proofs.Common.{rules, ◌≡◌, ◌∙◌, ◌||◌, ◌++◌, IfOk, OnOk, true, false, inl, inr, refl, sym, ap, subst, Ok, Err, unwrap_or}
+use Rattle.std.proofs.Common.{rules, ◌≡◌, ◌∙◌, ◌||◌, ◌++◌, ◌⊎◌, IfOk, IfErr, OnOk, true, false, inl, inr, refl, sym, ap, subst, Result, Ok, Err, unwrap_or}
 use Rattle.std.proofs.KnownBytes.{Appends-trans}
+use Rattle.std.proofs.lemmas.Result.{err_from_is_err_and}
 use Rattle.x86_64_dump.specs.Dump.{words_of_dump}
 use Rattle.x86_64_dump.specs.Opened.{opened}
 use Rattle.ptdump_engine.specs.Failure.{failure_of}
@@ -12,8 +13,10 @@ use Rattle.ptdump_engine.specs.Steps.{InTurn, of_dump}
 use Rattle.std.specs.Io.KnownBytes.{Appends}
 use Rattle.ptdump_engine.specs.Output.{put_in}
 use Rattle.ptdump_engine.specs.private.Roots.{AreNoted}
-use Rattle.ptdump_engine.proofs.Failing.{forced_found}
+use Rattle.ptdump_engine.specs.declared.failure.Failure.{Failure}
+use Rattle.ptdump_engine.proofs.Failing.{forced_found, second_write}
 use Rattle.ptdump_engine.proofs.Resolved.{same_ends, same_image}
+use Rattle.ptdump_engine.proofs.Turns.{told_nothing}
 use Rattle.ptdump_json.proofs.Results.{if_err, on_ok}
 use Rattle.ptdump_engine.proofs.Wholly.{forced_run, no_processors, no_start, opens, put_first, puts_both, runs_by, runs_on_all, shows, tells_of, unopened, written_at_once}
 use Rattle.ptdump_engine.proofs.engine.run.Goals as goal
@@ -247,3 +250,89 @@ returns-then-is_of_processors-clause-untold g c = if_err c.report_on_processors.
 
 pub returns-clause-untold : goal.returns-clause-untold
 returns-clause-untold g c = if_err c.report_from.result (λ failure forced. inl forced) c.report_from.ensures.errors
+
+-- ---- writes that standard error refuses
+
+pub returns-in_err-write_opening-clause-run : goal.returns-in_err-write_opening-clause-run
+returns-in_err-write_opening-clause-run g c = λ known.
+    let fails = g.S.ByteSource.may_fail in
+    let a = g.W.Destination.may_refuse in
+    let b = g.E.Destination.may_refuse in
+    let now = g.W.Destination.contents c.args.writer.now in
+    let e = err_from_is_err_and c.from_residual-in_err-write_opening.result c.from_residual-in_err-write_opening.ensures.1 in
+    rw e.1 (forced_run (is_info c.args.request.command) (is_of_processors c.args.request) fails (a || b) c.args.request (g.S.ByteSource.bytes c.args.source) now now e.0
+    (second_write fails a b e.0 e.2.0))
+
+pub returns-in_err-write_source-clause-run : goal.returns-in_err-write_source-clause-run
+returns-in_err-write_source-clause-run g c = λ known.
+    let fails = g.S.ByteSource.may_fail in
+    let a = g.W.Destination.may_refuse in
+    let b = g.E.Destination.may_refuse in
+    let now = g.W.Destination.contents c.args.writer.now in
+    let e = err_from_is_err_and c.from_residual-in_err-write_source.result c.from_residual-in_err-write_source.ensures.1 in
+    rw e.1 (forced_run (is_info c.args.request.command) (is_of_processors c.args.request) fails (a || b) c.args.request (g.S.ByteSource.bytes c.args.source) now now e.0
+    (second_write fails a b e.0 e.2.0))
+
+pub returns-in_err-write_levels-clause-run : goal.returns-in_err-write_levels-clause-run
+returns-in_err-write_levels-clause-run g c = λ known.
+    let fails = g.S.ByteSource.may_fail in
+    let a = g.W.Destination.may_refuse in
+    let b = g.E.Destination.may_refuse in
+    let now = g.W.Destination.contents c.args.writer.now in
+    let e = err_from_is_err_and c.from_residual-in_err-write_levels.result c.from_residual-in_err-write_levels.ensures.1 in
+    rw e.1 (forced_run (is_info c.args.request.command) (is_of_processors c.args.request) fails (a || b) c.args.request (g.S.ByteSource.bytes c.args.source) now now e.0
+    (second_write fails a b e.0 e.2.0))
+
+-- ---- an observer that is told nothing
+
+unchanged : {T G : Type 0} (P : Failure → Type 0) (now : G) (result : Result T Failure) → IfErr result (λ failure. P failure ⊎ (now ≡ now))
+unchanged P now (Ok x) = tt
+unchanged P now (Err failure) = inr refl
+
+pub returns-in_err-dump-clause-counted : goal.returns-in_err-dump-clause-counted
+returns-in_err-dump-clause-counted g c = told_nothing g.G.Progress.Told g.G.Progress.Ended c.args.progress.now
+
+pub returns-in_err-dump-clause-untold : goal.returns-in_err-dump-clause-untold
+returns-in_err-dump-clause-untold g c = unchanged _ c.args.progress.now c.from_residual.result
+
+pub returns-in_err-write_opening-clause-counted : goal.returns-in_err-write_opening-clause-counted
+returns-in_err-write_opening-clause-counted g c = told_nothing g.G.Progress.Told g.G.Progress.Ended c.args.progress.now
+
+pub returns-in_err-write_opening-clause-untold : goal.returns-in_err-write_opening-clause-untold
+returns-in_err-write_opening-clause-untold g c = unchanged _ c.args.progress.now c.from_residual-in_err-write_opening.result
+
+pub returns-then-is_info-clause-counted : goal.returns-then-is_info-clause-counted
+returns-then-is_info-clause-counted g c = told_nothing g.G.Progress.Told g.G.Progress.Ended c.args.progress.now
+
+pub returns-then-is_info-clause-untold : goal.returns-then-is_info-clause-untold
+returns-then-is_info-clause-untold g c = unchanged _ c.args.progress.now c.write_info.result
+
+pub returns-in_err-processors-clause-counted : goal.returns-in_err-processors-clause-counted
+returns-in_err-processors-clause-counted g c = told_nothing g.G.Progress.Told g.G.Progress.Ended c.args.progress.now
+
+pub returns-in_err-processors-clause-untold : goal.returns-in_err-processors-clause-untold
+returns-in_err-processors-clause-untold g c = unchanged _ c.args.progress.now c.from_residual-in_err-processors.result
+
+pub returns-in_err-start-clause-counted : goal.returns-in_err-start-clause-counted
+returns-in_err-start-clause-counted g c = told_nothing g.G.Progress.Told g.G.Progress.Ended c.args.progress.now
+
+pub returns-in_err-start-clause-untold : goal.returns-in_err-start-clause-untold
+returns-in_err-start-clause-untold g c = unchanged _ c.args.progress.now c.from_residual-in_err-start.result
+
+pub returns-in_err-write_source-clause-counted : goal.returns-in_err-write_source-clause-counted
+returns-in_err-write_source-clause-counted g c = told_nothing g.G.Progress.Told g.G.Progress.Ended c.args.progress.now
+
+pub returns-in_err-write_source-clause-untold : goal.returns-in_err-write_source-clause-untold
+returns-in_err-write_source-clause-untold g c = unchanged _ c.args.progress.now c.from_residual-in_err-write_source.result
+
+pub returns-in_err-write_levels-clause-counted : goal.returns-in_err-write_levels-clause-counted
+returns-in_err-write_levels-clause-counted g c = told_nothing g.G.Progress.Told g.G.Progress.Ended c.args.progress.now
+
+pub returns-in_err-write_levels-clause-untold : goal.returns-in_err-write_levels-clause-untold
+returns-in_err-write_levels-clause-untold g c = unchanged _ c.args.progress.now c.from_residual-in_err-write_levels.result
+
+pub returns-in_err-resolved-clause-counted : goal.returns-in_err-resolved-clause-counted
+returns-in_err-resolved-clause-counted g c = told_nothing g.G.Progress.Told g.G.Progress.Ended c.args.progress.now
+
+pub returns-in_err-resolved-clause-untold : goal.returns-in_err-resolved-clause-untold
+returns-in_err-resolved-clause-untold g c = unchanged _ c.args.progress.now c.from_residual-in_err-resolved.result

@@ -1,4 +1,5 @@
 use Rattle.std.proofs.Common.{◌≡◌, ◌∙◌, List, ap, subst}
+use Rattle.std.proofs.lemmas.Result.{err_from_is_err_and}
 use Rattle.std.specs.Io.KnownBytes.{Appends}
 use Rattle.std.specs.List.{flat_map, list_all}
 use Rattle.x86_64_dump.specs.Dump.{words_of_dump}
@@ -7,6 +8,8 @@ use Rattle.ptdump_engine.specs.Processors.{firsts_of, left_out_text}
 use Rattle.ptdump_engine.specs.Program.{EndsByTotalsOf, ToldOfTablesOf, is_complete_for, report_below}
 use Rattle.ptdump_engine.specs.Steps.{InTurn}
 use Rattle.ptdump_engine.specs.declared.processors.Processor.{Processor}
+use Rattle.ptdump_engine.proofs.Failing.{second_write}
+use Rattle.ptdump_engine.proofs.Turns.{told_nothing}
 use Rattle.ptdump_engine.proofs.Wholly.{written_at_once}
 use Rattle.ptdump_engine.proofs.roots.report_on_processors.Goals as goal
 
@@ -42,3 +45,17 @@ returns-clause-told g c = λ known.
     let firsts : c.deref.result.now ≡ firsts_of c.args.processors.now = c.deref.ensures.value ∙ c.in_ok-firsts.ensures ∙ ap firsts_of c.in_ok-groups.ensures.processors in
     subst (λ (fs : List Processor). InTurn (ToldOfTablesOf g.G.Progress.Told g.G.Progress.Ended T) fs c.args.progress.now c.write_reports.new.progress) firsts
     (c.in_ok-is_complete.ensures.told known)
+
+pub returns-in_err-groups-clause-counted : goal.returns-in_err-groups-clause-counted
+returns-in_err-groups-clause-counted g c = told_nothing g.G.Progress.Told g.G.Progress.Ended c.args.progress.now
+
+pub returns-in_err-firsts-clause-counted : goal.returns-in_err-firsts-clause-counted
+returns-in_err-firsts-clause-counted g c = told_nothing g.G.Progress.Told g.G.Progress.Ended c.args.progress.now
+
+pub returns-in_err-write_left_out-clause-counted : goal.returns-in_err-write_left_out-clause-counted
+returns-in_err-write_left_out-clause-counted g c = told_nothing g.G.Progress.Told g.G.Progress.Ended c.args.progress.now
+
+pub returns-in_err-write_left_out-clause-errors : goal.returns-in_err-write_left_out-clause-errors
+returns-in_err-write_left_out-clause-errors g c =
+    let e = err_from_is_err_and c.from_residual-in_err-write_left_out.result c.from_residual-in_err-write_left_out.ensures.1 in
+    rw e.1 (second_write g.S.ByteSource.may_fail g.W.Destination.may_refuse g.E.Destination.may_refuse e.0 e.2.0)
