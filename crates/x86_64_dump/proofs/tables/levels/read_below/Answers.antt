@@ -27,7 +27,7 @@ loop-frame-preserved g c = record {
       let W = words_of_dump (opened g.S.ByteSource.bytes c.args.dump.now) in
       let frame = c.frame-item.result in
       let more = λ (words : List ℕ). frame_more W c.loop-frame.below c.match-table.below c.args.frames.now words c.loop-frame.frame-index frame
-          c.loop-frame-test.true (c.loop-frame.invariant.below known) in
+      c.loop-frame-test.true (c.loop-frame.invariant.below known) in
       let there = c.table.ensures ∙ c.in_ok-read.ensures.read known (c.loop-frame.invariant.read known) ∙ ap W c.frame-item.is in
       elim c.match-table.branch [
         | in-Some+in_ok-add_named w ↦ more w.as_slice.result.now
