@@ -13,3 +13,5 @@ mod page;
 mod pools;
 #[cfg(test)]
 mod prelude;
+#[cfg(test)]
+mod texts;
