@@ -23,7 +23,7 @@ def functions_of(module: Module) -> list[Item]:
 @cache
 def edits_of(crate: str) -> tuple[Path, ...]:
     """Returns the wrong bodies of a crate."""
-    folders = (CRATES / crate / "must-fail", TOP / "tests" / "wrong_bodies" / crate)
+    folders = (CRATES / crate / "wrong_bodies", TOP / "tests" / "wrong_bodies" / crate)
     return tuple(sorted((file for folder in folders for file in folder.glob("*.edit")), key=lambda file: file.name))
 
 

@@ -6,3 +6,4 @@ pub mod KernelCalls
 pub mod PageUnmaps
 mod AgainAtOffset
 mod Listed
+mod AlikeAfter

@@ -6,3 +6,4 @@ pub mod Processes
 pub mod SwitchingKernel
 pub mod Listed
 pub mod TwoRoots
+pub mod AlikePair

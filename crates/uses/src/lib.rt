@@ -16,6 +16,8 @@ pub mod own_allocator;
 pub mod own_memory;
 pub mod porting;
 pub mod processes;
+pub mod recursive_or_refused;
+pub mod run_in_pair;
 pub mod run_in_space;
 pub mod run_in_turn;
 pub mod run_list;
