@@ -1,8 +1,12 @@
 //! Runs lists of calls on two alike hierarchies at once, the second of which has a recursive index.
-ghost use Rattle.std.specs.Prelude.{◌≡◌, false};
+ghost use Rattle.std.specs.Prelude.{◌≡◌, [], false, IfOk};
 ghost use Rattle.std.specs.List.{AllByRecursion};
 ghost use Rattle.uses.specs.AlikePair.{AreAlikePair};
-ghost use Rattle.x86_64.specs.Calls.{names};
+ghost use Rattle.uses.specs.Owned.{hierarchy_at};
+ghost use Rattle.x86_64_model.specs.Memory.{identity_places};
+ghost use Rattle.x86_64.specs.Calls.{names, to_call};
+ghost use Rattle.x86_64.specs.Pairs.{pool_store};
+ghost use Rattle.x86_64.specs.Runs.{Ran};
 
 use std::alloc::{AllocError, Global};
 use x86_64::structures::paging::{PageTableIndex, PhysFrame, Size4KiB};
@@ -34,7 +38,10 @@ pub fn run_in_pair<L: LevelCount, P5: LevelFiveFlags<L>>(
 ) -> Result<Vec<ReplyIn<L>>, AllocError>
     requires pair { AreAlikePair L.LEVELS root index memory.old pool.old walked.old walked_pool.old }
     requires unnamed { AllByRecursion (λ call. names L.LEVELS P5.bits call index ≡ false) calls.now }
-    ensures { AreAlikePair L.LEVELS root index memory.new pool.new walked.new walked_pool.new }
+    ensures again { AreAlikePair L.LEVELS root index memory.new pool.new walked.new walked_pool.new }
+    ensures ran { let h = hierarchy_at L.LEVELS identity_places root in IfOk result (λ replies.
+        Ran (to_call L.LEVELS P5.bits) (h memory.old) (pool_store pool.old) calls.now
+        [] replies.items (h memory.new) pool.new.frames) }
 {
     let mut direct = MappedPageTableIn::<IdentityMapping, L>::new(memory, root, IdentityMapping);
     let active = Active::<L>::new(walked, root);

@@ -7,8 +7,8 @@ use Rattle.x86_64_mappers.specs.Recursive.{recursive_at, recursive_now_at, windo
 use Rattle.uses.proofs.AlikeAfter.{alike_after}
 use Rattle.uses.proofs.run_in_pair.run_in_pair.Goals as goal
 
-pub returns : goal.returns
-returns g c =
+pub returns-clause-again : goal.returns-clause-again
+returns-clause-again g c =
     let levels = g.L.LevelCount.LEVELS in let direct = c.run_pair.new.a in let recursive = c.run_pair.new.b in
     let root = cr3_of recursive.active in
     record {
