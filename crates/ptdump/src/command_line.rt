@@ -1,6 +1,6 @@
 //! The command line that the program accepts.
-use crate::help::{COMMANDS, CommandHelp, FILE, MORE};
-use crate::options::OPTIONS;
+use crate::help::{CommandHelp, FILE, commands, more};
+use crate::options::options;
 use clap::{Arg, ArgAction, Command, Error};
 use std::alloc::Global;
 
@@ -15,8 +15,8 @@ pub fn command_line<'a>(alloc: Global) -> Result<Command<'a>, Error> {
         .version("1.0.0")
         .arg_required_else_help(true)
         .subcommand_required(true)
-        .after_help(MORE);
-    for help in &COMMANDS {
+        .after_help(more());
+    for help in &commands() {
         command = command.subcommand(subcommand(alloc, help)?)?;
     }
     Ok(command)
@@ -31,7 +31,7 @@ fn subcommand<'a>(alloc: Global, help: &CommandHelp) -> Result<Command<'a>, Erro
     if let Some(text) = help.addresses {
         command = command.arg(addresses(alloc, text))?;
     }
-    for option in &OPTIONS {
+    for option in options() {
         if option.is_common || help.options.contains(&option.name) {
             command = command.arg(option.argument(alloc)?)?;
         }

@@ -1,6 +1,7 @@
 //! The help texts of the commands, each with an example that can be tried.
 
 /// The description of a command.
+#[derive(Clone, Copy)]
 pub struct CommandHelp {
     /// The word on the command line.
     pub name: &'static str,
@@ -17,8 +18,23 @@ pub struct CommandHelp {
 /// What help says of the file.
 pub const FILE: &str = "The dump: an ELF core, a LiME file, or a raw file of physical memory";
 
-/// The help text of the program after the list of commands.
-pub const MORE: &str = "\
+/// Returns the descriptions of the commands, in the order of the help text.
+pub fn commands() -> [CommandHelp; 8] {
+    [
+        regions(),
+        pages(),
+        walk(),
+        find(),
+        check(),
+        image(),
+        picture(),
+        info(),
+    ]
+}
+
+/// Returns the help text of the program after the list of commands.
+pub fn more() -> &'static str {
+    "\
 FILE is a dump of an x86-64 machine's physical memory, or - for standard input:
 - an ELF core, as QEMU's `dump-guest-memory FILE` and Linux's kdump write it,
 - a LiME file of version 1, which has ranges of memory behind headers,
@@ -68,10 +84,11 @@ Example, of a dump that the source of ptdump has in the folder examples:
   0xffffffffff600000-0xffffffffff600fff 4KiB r-xu
   tables 13, mappings 18, mapped 1.0GiB
 
-`ptdump COMMAND --help` has an example of each command.";
+`ptdump COMMAND --help` has an example of each command."
+}
 
-/// The commands, in the order of the help text.
-pub static COMMANDS: [CommandHelp; 8] = [
+/// Returns the description of `regions`.
+fn regions() -> CommandHelp {
     CommandHelp {
         name: "regions",
         about: "List what is mapped, region by region",
@@ -152,7 +169,11 @@ Examples:
   0xffffffff80003000-0xffffffff80004fff 8KiB rw--
   0xffffffffff600000-0xffffffffff600fff 4KiB r-xu
   tables 13, mappings 18, mapped 1.0GiB",
-    },
+    }
+}
+
+/// Returns the description of `pages`.
+fn pages() -> CommandHelp {
     CommandHelp {
         name: "pages",
         about: "List all mappings, page by page",
@@ -225,7 +246,11 @@ Examples:
   0xffffffff80004000 4KiB 0x223000 rw-- 0x8000000000000103
   0xffffffffff600000 4KiB 0x226000 r-xu 0x105
   tables 13, mappings 18, mapped 1.0GiB",
-    },
+    }
+}
+
+/// Returns the description of `walk`.
+fn walk() -> CommandHelp {
     CommandHelp {
         name: "walk",
         about: "Show how the processor finds an address, word by word",
@@ -289,7 +314,11 @@ Examples:
   level 1 0x104000[4] 0x5a0000
   not present
   tables 13, mappings 18, mapped 1.0GiB",
-    },
+    }
+}
+
+/// Returns the description of `find`.
+fn find() -> CommandHelp {
     CommandHelp {
         name: "find",
         about: "Find the addresses that lead to a physical address",
@@ -321,7 +350,11 @@ Examples:
   {\"address\":\"0x405123\",\"execute\":false,\"physical\":\"0x204123\",\"user\":true,\"write\":true}
   {\"address\":\"0xffff800000204123\",\"execute\":false,\"physical\":\"0x204123\",\"user\":false,\"write\":true}
   tables 13, mappings 18, mapped 1.0GiB",
-    },
+    }
+}
+
+/// Returns the description of `check`.
+fn check() -> CommandHelp {
     CommandHelp {
         name: "check",
         about: "Find what is seldom meant, as memory that may be written and executed",
@@ -383,7 +416,11 @@ Examples:
   {\"bytes\":4096,\"execute\":true,\"finding\":\"user reaches upper half\",\"first\":\"0xffffffffff600000\",\"last\":\"0xffffffffff600fff\",\"user\":true,\"write\":false}
   {\"findings\":2}
   tables 13, mappings 18, mapped 1.0GiB",
-    },
+    }
+}
+
+/// Returns the description of `image`.
+fn image() -> CommandHelp {
     CommandHelp {
         name: "image",
         about: "Write the tables as an image that pagetab reads",
@@ -417,7 +454,11 @@ Example:
   tables 13, mappings 18, mapped 1.0GiB
   $ echo walk 0x405123 | cat image.txt - | pagetab direct 14
   0x204123 write=1 user=1",
-    },
+    }
+}
+
+/// Returns the description of `picture`.
+fn picture() -> CommandHelp {
     CommandHelp {
         name: "picture",
         about: "Draw the regions and the tables, as an SVG picture",
@@ -431,7 +472,11 @@ Example:
 
   $ ptdump picture machine.elf > machine.svg
   tables 13, mappings 18, mapped 1.0GiB",
-    },
+    }
+}
+
+/// Returns the description of `info`.
+fn info() -> CommandHelp {
     CommandHelp {
         name: "info",
         about: "Tell what the dump says of its machine, and which root is taken",
@@ -459,5 +504,5 @@ Examples:
   root: 0x101000, 4 levels, of processor 0
   $ ptdump info machine.elf --json | tail -n 1
   {\"root\":{\"address\":\"0x101000\",\"cpu\":0,\"levels\":4,\"origin\":\"processor\"}}",
-    },
-];
+    }
+}

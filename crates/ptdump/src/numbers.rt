@@ -15,7 +15,7 @@ use std::alloc::Global;
 use text::parse_number;
 
 /// An option that takes a number.
-#[derive(Clone, Copy, Debug)]
+#[derive(Clone, Copy)]
 pub enum NumberOption {
     /// `--cr3`.
     Cr3,

@@ -38,7 +38,7 @@ pub struct OptionHelp {
 }
 
 /// The options.
-pub static OPTIONS: [OptionHelp; 21] = [
+static OPTIONS: [OptionHelp; 21] = [
     OptionHelp {
         name: "from",
         takes: Takes::Value("ADDRESS"),
@@ -208,6 +208,11 @@ pub static OPTIONS: [OptionHelp; 21] = [
         is_common: true,
     },
 ];
+
+/// Returns the descriptions of the options, in the order of the help.
+pub fn options() -> &'static [OptionHelp] {
+    &OPTIONS
+}
 
 impl OptionHelp {
     /// Returns the option of the command line.

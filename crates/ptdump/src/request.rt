@@ -23,7 +23,6 @@ use std::alloc::Global;
 /// # Errors
 ///
 /// `Failure::OutOfMemory` if memory allocation fails, otherwise what is wrong with the words.
-#[tactic(auto, using(crate::proofs::Reasons::for_any_name, crate::proofs::Reasons::mistake_for_any_name))]
 pub fn request_of<'a>(
     alloc: Global,
     name: &'a str,
@@ -72,7 +71,6 @@ fn areas_of(arguments: &ArgMatches<'_>) -> AreaNames
 }
 
 /// Returns the command with a name and its arguments.
-#[tactic(auto, using(crate::proofs::Names::same_name, crate::proofs::Commands::no_name, crate::proofs::Commands::same_command, crate::proofs::Commands::same_refusal, crate::proofs::Reasons::reason_for, crate::proofs::Reasons::mistake_for))]
 fn command_of<'a>(
     alloc: Global,
     name: &'a str,

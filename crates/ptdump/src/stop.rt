@@ -6,7 +6,6 @@ use crate::numbers::{NumberOption, has_zero_in_front};
 use clap::error::ErrorKind;
 use ptdump_engine::Failure;
 use std::alloc::{AllocError, AllocFailed};
-use std::error::Error;
 use std::fmt::{Display, Formatter, Result as FmtResult, Write};
 use std::io;
 
@@ -19,7 +18,7 @@ const ZERO_IN_FRONT: &str =
     "begins with 0: write 0x before hexadecimal digits, and no 0 before decimal ones";
 
 /// The reason why the program ends without the requested report.
-#[derive(Debug, Drop)]
+#[derive(Drop)]
 pub enum Stop<'a> {
     /// Help or the version was requested.
     Help(clap::Error),
@@ -163,6 +162,33 @@ impl Display for Stop<'_> {
                 let reason = number_reason(text);
                 write!(f, "--{name} {text} {reason}")
             }
+            Stop::Unopened { .. } | Stop::NoLength { .. } | Stop::Unread { .. } => {
+                self.write_file_reason(f)
+            }
+            Stop::ReaderLeft => f.write_str("the reader of the output has left"),
+            Stop::Failed(failure) => write!(f, "{failure}"),
+            _ => self.write_option_reason(f),
+        }
+    }
+}
+
+impl Stop<'_> {
+    /// Writes which file can't be read, and why. Writes nothing for other reasons.
+    fn write_file_reason<W: Write>(&self, f: &mut Formatter<W>) -> FmtResult {
+        match self {
+            Stop::Unopened { path, error } => write!(f, "{path} can't be opened: {error}"),
+            Stop::NoLength { path, error } => write!(
+                f,
+                "the end of {path} can't be seeked, as that of a pipe: write it into a file first ({error})"
+            ),
+            Stop::Unread { path, error } => write!(f, "{path} can't be read: {error}"),
+            _ => Ok(()),
+        }
+    }
+
+    /// Writes which option's value can't be taken. Writes nothing for other reasons.
+    fn write_option_reason<W: Write>(&self, f: &mut Formatter<W>) -> FmtResult {
+        match self {
             Stop::NoLevels(levels) => write!(
                 f,
                 "--levels {levels}: give 4 or 5, which page tables have"
@@ -200,14 +226,7 @@ impl Display for Stop<'_> {
                 f,
                 "--rights {text}: give one or more of the letters r, w, x and u, each once, as in wx"
             ),
-            Stop::Unopened { path, error } => write!(f, "{path} can't be opened: {error}"),
-            Stop::NoLength { path, error } => write!(
-                f,
-                "the end of {path} can't be seeked, as that of a pipe: write it into a file first ({error})"
-            ),
-            Stop::Unread { path, error } => write!(f, "{path} can't be read: {error}"),
-            Stop::ReaderLeft => f.write_str("the reader of the output has left"),
-            Stop::Failed(failure) => write!(f, "{failure}"),
+            _ => Ok(()),
         }
     }
 }
@@ -229,8 +248,6 @@ fn zeros_told(text: &str) -> &'static str {
         ""
     }
 }
-
-impl Error for Stop<'_> {}
 
 impl From<AllocError> for Stop<'_> {
     ghost use Rattle.ptdump_engine.specs.declared.failure.Failure.TheVariants.{OutOfMemory};
