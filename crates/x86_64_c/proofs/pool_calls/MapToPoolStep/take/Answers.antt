@@ -40,3 +40,9 @@ returns-clause-unchanged g c = λ never. absurd (true≢false (sym never))
 
 pub returns-clause-serves : goal.returns-clause-serves
 returns-clause-serves g c = c.map_to_with_table_flags-mapped.ensures.does.serves
+
+pub new-mapper-requires : goal.new-mapper-requires
+new-mapper-requires g c = c.requires.fits.valid
+
+pub returns-then-not-map_allowed-clause-unchanged : goal.returns-then-not-map_allowed-clause-unchanged
+returns-then-not-map_allowed-clause-unchanged g c = λ never. absurd (true≢false (sym never))

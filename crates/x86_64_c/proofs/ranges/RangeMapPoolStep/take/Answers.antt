@@ -1,9 +1,16 @@
-use Rattle.std.proofs.Common.{true≢false, sym, ◌∙◌, refl, rules}
+use Rattle.std.proofs.Common.{◌≡◌, true≢false, ℕ, true, Option, Some, Result, Ok, Err, IfOk, IfErr, ap, sym, ◌∙◌, refl, rules}
 use Rattle.x86_64_mappers.specs.Layouts.{direct_at}
 use Rattle.x86_64_c.specs.Ranges.{range_of_request}
+use Rattle.x86_64_c.specs.private.RangeMaps.{is_without_number}
 use Rattle.x86_64_c.proofs.EntryChanges.{plain, supply_over}
 use Rattle.x86_64_c.proofs.RangesSeen.{mapped, maps_are, range_over, range_seen}
 use Rattle.x86_64_c.proofs.ranges.RangeMapPoolStep.take.Goals as goal
+
+is_told : {X E : Type 0} (mapped : Result X E) (told : Option ℕ) (all : X → ℕ) (some : E → ℕ) → IfOk mapped (λ x. told ≡ Some (all x)) → IfErr mapped
+    (λ e. told ≡ Some (some e))
+    → is_without_number told ≡ true → ⊥
+is_told (Ok x) told all some is other none = true≢false (sym none ∙ ap is_without_number is)
+is_told (Err e) told all some other is none = true≢false (sym none ∙ ap is_without_number is)
 
 pub returns-clause-does : goal.returns-clause-does
 returns-clause-does g c =
@@ -34,3 +41,13 @@ map_range-mapped-requires-clause-fits g c = supply_over _ _ _ _ c.new-mapper.ens
 
 pub map_range-mapped-requires-clause-may : goal.map_range-mapped-requires-clause-may
 map_range-mapped-requires-clause-may g c = (c.map_range_allowed.ensures.0 c.if-not-map_range_allowed.false).1
+
+pub new-mapper-requires : goal.new-mapper-requires
+new-mapper-requires g c = c.requires.fits.valid
+
+pub returns-clause-unchanged : goal.returns-clause-unchanged
+returns-clause-unchanged g c = λ none. absurd
+    (is_told c.map_range-mapped.result c.tell_mapped.result.done _ _ c.tell_mapped.ensures.all c.tell_mapped.ensures.some none)
+
+pub returns-clause-serves : goal.returns-clause-serves
+returns-clause-serves g c = c.map_range-mapped.ensures.maps.serves
