@@ -1,6 +1,10 @@
-use Rattle.std.proofs.Common.{◌∙◌, ap, arith, get_or}
+use Rattle.std.proofs.Common.{◌∙◌, Bool, Ok, ap, arith, get_or}
 use Rattle.std.proofs.Math.Seq.{drop-cons}
 use Rattle.std.proofs.lemmas.List.{drop_all}
+use Rattle.std.proofs.lemmas.Result.{err_from_is_err_and}
+use Rattle.x86_64_dump.specs.Opening.{Fails}
+use Rattle.x86_64_dump.specs.declared.error.DumpError.{DumpError}
+use Rattle.x86_64_dump.specs.declared.error.DumpError.TheVariants as errors
 use Rattle.x86_64_dump.specs.KernelTexts.{memory_size}
 use Rattle.x86_64_dump.proofs.KernelTexts.{segment_left_out, segment_passed, segments_passed}
 use Rattle.x86_64_dump.proofs.NotesRead.{nothing}
@@ -38,3 +42,14 @@ pub returns : goal.returns
 returns g c known =
     segments_passed (g.S.ByteSource.bytes c.args.source.now) c.args.segments.now c.loop-segment.segment-index c.loop-segment.room c.loop-segment.texts.items _
     (drop_all c.loop-segment.segment-index c.args.segments.now c.loop-segment-test.false) (c.loop-segment.invariant.told known)
+
+-- an error that isn't a fault agrees with each value
+fails_as_well : {A B : Type 0} (may : Bool) (error : DumpError) (a : A) (b : B) → Fails may error (Ok a) → Fails may error (Ok b)
+fails_as_well may errors.OutOfMemory a b fails = tt
+fails_as_well may (errors.Read error) a b fails = fails
+fails_as_well may (errors.Fault fault) a b fails = cc
+
+pub returns-in_err-add_segment : goal.returns-in_err-add_segment
+returns-in_err-add_segment g c known =
+    let error = err_from_is_err_and c.from_residual.result c.from_residual.ensures.1 in
+    rw (error.1, error.2) (fails_as_well g.S.ByteSource.may_fail c.in_err-add_segment.field-0.0 _ _ (c.in_err-add_segment.ensures.texts known))

@@ -1,4 +1,6 @@
-use Rattle.std.proofs.Common.{◌≡◌, ◌==◌, ◌*◌, ◌/◌, ◌^◌, ◌<◌, ◌∙◌, List, ℕ, sym, ap, subst}
+use Rattle.std.proofs.Common.{◌≡◌, ◌==◌, ◌||◌, ◌*◌, ◌/◌, ◌^◌, ◌<◌, ◌∙◌, List, ℕ, sym, ap, ap₂, subst, arith}
+use Rattle.std.proofs.lemmas.List.Folds.{list_any_more}
+use Rattle.std.proofs.lemmas.Result.{IfOk-from_err}
 use Rattle.std.specs.List.{dedup, list_any}
 use Rattle.std.specs.List.Sorted.{IsStrictlyIncreasing}
 use Rattle.std.proofs.lemmas.List.{take_all}
@@ -35,3 +37,28 @@ returns-clause-increasing c =
     let P : List ℕ → Type 0 = IsStrictlyIncreasing in
     subst P (sym (kept (goal.at.returns-clause-increasing c).After-dedup))
     (IsStrictlyIncreasing-dedup c.sort_unstable.new.self.items c.sort_unstable.ensures.sorted)
+
+pub loop-level-init : goal.loop-level-init
+loop-level-init c = record {
+  numbers = λ f _. ap (λ numbers. has_number numbers f) c.new-numbers.ensures.items;
+  below = let P : List ℕ → Type 0 = AreFrameNumbers in subst P (sym c.new-numbers.ensures.items) (λ k d within. absurd (omega (arith, within)));
+}
+
+pub loop-level-preserved : goal.loop-level-preserved
+loop-level-preserved c = record {
+  numbers = λ f is.
+      let level = ap (λ level. is_among level f) c.deref.ensures.value ∙ ap (λ level. is_among level.items f) c.level-item.is in
+      c.in_ok-add_numbers.ensures.numbers f is
+      ∙ ap₂ (λ before here. before || here) (c.loop-level.invariant.numbers f is) level
+      ∙ sym (list_any_more (λ level. is_among level.items f) c.args.frames.now c.loop-level.level-index c.level-item.result c.loop-level-test.true);
+  below = c.in_ok-add_numbers.ensures.below c.loop-level.invariant.below;
+}
+
+pub returns-in_err-add_numbers-clause-numbers : goal.returns-in_err-add_numbers-clause-numbers
+returns-in_err-add_numbers-clause-numbers c = IfOk-from_err c.from_residual.result _ c.from_residual.ensures.0
+
+pub returns-in_err-add_numbers-clause-below : goal.returns-in_err-add_numbers-clause-below
+returns-in_err-add_numbers-clause-below c = IfOk-from_err c.from_residual.result _ c.from_residual.ensures.0
+
+pub returns-in_err-add_numbers-clause-increasing : goal.returns-in_err-add_numbers-clause-increasing
+returns-in_err-add_numbers-clause-increasing c = IfOk-from_err c.from_residual.result _ c.from_residual.ensures.0

@@ -1,10 +1,13 @@
 use Rattle.std.proofs.Common.{◌≡◌, ◌<◌, ◌∷◌, length, get_or, [], sym, ap, ap₂, ◌∙◌, arith}
 use Rattle.std.proofs.lemmas.List.{get_or_read}
+use Rattle.std.proofs.lemmas.Bool.{and_parts}
+use Rattle.x86_64_model.specs.Entry.{present}
+use Rattle.x86_64_model.specs.Mappings.{maps_page}
 use Rattle.x86_64_model.specs.Memory.{words_of}
 use Rattle.x86_64_model.specs.Position.{position_count}
 use Rattle.x86_64_model.specs.private.Found.{page_at}
 use Rattle.x86_64_mappings.specs.private.Cursors.{listed_from}
-use Rattle.x86_64_mappings.proofs.Entries.{on_past, past_fits}
+use Rattle.x86_64_mappings.proofs.Entries.{on_past, past_fits, next_inside}
 use Rattle.x86_64_mappings.proofs.Steps.{small_first, there_first, there_last, page_first, none_last, goes_first}
 use Rattle.x86_64_mappings.proofs.listing.MappingsInIterator.next.Goals as goal
 
@@ -85,3 +88,29 @@ past-self-inside-requires-2-clause-room g c =
     let at = c.find_page.new.cursor in
     let some : 0 < length at.rest.now = c.in-Some.ensures.item.3.0 in
     past_fits g.L.LevelCount.LEVELS words s.root at.next at.level at.rights at.rest.now c.find_page.ensures.on g.L.LevelCount.at_most_five 1 (omega (arith, some))
+
+pub of_page-page-requires-clause-inside : goal.of_page-page-requires-clause-inside
+of_page-page-requires-clause-inside g c =
+    let s = c.self.inside in
+    let words = words_of (g.T.TableMemory.tables s.memory.now) (g.P.PageTableFrameMapping.places s.mapping.now) in
+    let at = s.cursor in
+    let small = small_first at.level at.rest.now (sym c.if-is_at_small_page.ensures) in
+    next_inside g.L.LevelCount.LEVELS words s.root at.next at.level at.rights at.rest.now c.self.invariant small.some
+
+pub of_page-requires-clause-low : goal.of_page-requires-clause-low
+of_page-requires-clause-low g c = c.find_page.ensures.on.low
+
+pub of_page-requires-clause-page : goal.of_page-requires-clause-page
+of_page-requires-clause-page g c =
+    let at = c.find_page.new.cursor in
+    let some : 0 < length at.rest.now = c.in-Some.ensures.item.3.0 in
+    let entry : c.in-Some.entry.now ≡ get_or at.rest.now 0 0 = c.in-Some.ensures.item.3.1 0 in
+    let page = sym (there_first g.L.LevelCount.LEVELS at.next at.level at.rest.now some) ∙ c.find_page.ensures.there in
+    ap (maps_page at.level) entry ∙ (and_parts (present (get_or at.rest.now 0 0)) (maps_page at.level (get_or at.rest.now 0 0)) page).1
+
+pub of_page-requires-clause-inside : goal.of_page-requires-clause-inside
+of_page-requires-clause-inside g c =
+    let s = c.self.inside in
+    let words = words_of (g.T.TableMemory.tables s.memory.now) (g.P.PageTableFrameMapping.places s.mapping.now) in
+    let at = c.find_page.new.cursor in
+    next_inside g.L.LevelCount.LEVELS words s.root at.next at.level at.rights at.rest.now c.find_page.ensures.on c.in-Some.ensures.item.3.0

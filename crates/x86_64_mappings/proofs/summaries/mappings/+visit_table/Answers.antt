@@ -2,14 +2,15 @@ use Rattle.std.proofs.Common.{◌≡◌, ◌<◌, ◌≤◌, ◌+◌, ◌-◌, �
 use Rattle.std.specs.Prelude.{OnOk}
 use Rattle.std.proofs.Math.Pow.{pow_mono}
 use Rattle.std.proofs.lemmas.List.{get_or_read, take_all}
-use Rattle.std.proofs.lemmas.Result.{on_ok_weaker}
+use Rattle.std.proofs.lemmas.Nat.{pow_pos}
+use Rattle.std.proofs.lemmas.Result.{IfOk-from_err, on_ok_weaker}
 use Rattle.x86_64_model.specs.Position.{span, position_count}
 use Rattle.x86_64_model.specs.Mappings.{granted}
 use Rattle.x86_64_mappings.specs.Selections.{is_mapping_selected}
 use Rattle.x86_64_mappings.specs.Wanted.{asked_of, asked_mappings, is_wanted}
 use Rattle.x86_64_mappings.specs.private.Placed.{placed}
 use Rattle.x86_64_mappings.specs.private.Targets.{asked_by, asked_on, selected_in}
-use Rattle.x86_64_mappings.proofs.Spans.{below_fits}
+use Rattle.x86_64_mappings.proofs.Spans.{below_fits, span_of_table}
 use Rattle.x86_64_mappings.proofs.Tables.{asked_none, asked_table, by_nothing, by_page, by_table, none_copied}
 use Rattle.x86_64_mappings.proofs.Visited.{next_start, start_inside, start_aligned, span_below, aligned_below, kept_more, kept_page, kept_same}
 use Rattle.x86_64_mappings.proofs.summaries.mappings.+visit_table.Goals as goal
@@ -168,3 +169,76 @@ returns g t c =
     (ap (asked_on asked c.args.table.now.level c.args.table.now.start r) (take_all c.loop-entry.entry-index words c.loop-entry-test.false)
     ∙ sym (asked_table asked c.args.table.now.level c.args.table.now.start r c.args.table.now.frame words c.requires.low there size))
     c.loop-entry.invariant.visited
+
+pub visit_small_pages-requires-clause-size : goal.visit_small_pages-requires-clause-size
+visit_small_pages-requires-clause-size g t c = ap length c.as_slice-entries.ensures.words ∙ c.as_slice-entries.ensures.size
+
+pub visit_small_pages-requires-clause-aligned : goal.visit_small_pages-requires-clause-aligned
+visit_small_pages-requires-clause-aligned g t c = subst (λ level. c.args.table.now.start % span level ≡ 0) c.if-table-eq1.true c.requires.aligned
+
+pub visit_small_pages-requires-clause-inside : goal.visit_small_pages-requires-clause-inside
+visit_small_pages-requires-clause-inside g t c =
+    subst (λ level. c.args.table.now.start + 512 * span level ≤ position_count g.L.LevelCount.LEVELS) c.if-table-eq1.true c.requires.inside
+
+pub loop-entry-init : goal.loop-entry-init
+loop-entry-init g t c =
+    let asked = asked_of g.T.TableMemory.tables g.P.PageTableFrameMapping.places c.args.summaries.now in
+    let visited = selected_in g.L.LevelCount.LEVELS c.args.selection.now asked in
+    record { start = omega arith; visited = g.met.V.TableVisitor.none visited c.args.visitor.now }
+
+pub of_page-page-requires-clause-inside : goal.of_page-page-requires-clause-inside
+of_page-page-requires-clause-inside g t c =
+    let level = c.args.table.now.level in
+    let some : 0 < span level = pow_pos (12 + 9 * (level - 1)) in
+    let size : length c.as_slice-entries.result.now ≡ 512 = ap length c.as_slice-entries.ensures.words ∙ c.as_slice-entries.ensures.size in
+    let most = position_count g.L.LevelCount.LEVELS in
+    let less : c.loop-entry.entry-index < 512 = omega (arith, c.loop-entry-test.true, size) in
+    let within = start_inside c.args.table.now.start c.loop-entry.entry-index (span level) most less c.requires.inside in
+    omega (arith, c.loop-entry.invariant.start, within, some)
+
+pub maps_nothing-requires-clause-low : goal.maps_nothing-requires-clause-low
+maps_nothing-requires-clause-low g t c =
+    subst (λ table. 1 ≤ table.level) (sym c.below-below.ensures) (let low = c.in-Table.ensures.table tt in omega (arith, low))
+
+pub maps_nothing-requires-clause-high : goal.maps_nothing-requires-clause-high
+maps_nothing-requires-clause-high g t c =
+    subst (λ table. table.level < 5) (sym c.below-below.ensures) (omega (arith, c.requires.low, c.requires.high))
+
+pub passes_over-requires-clause-low : goal.passes_over-requires-clause-low
+passes_over-requires-clause-low g t c =
+    subst (λ table. 1 ≤ table.level) (sym c.below-below.ensures) (let low = c.in-Table.ensures.table tt in omega (arith, low))
+
+pub passes_over-requires-clause-high : goal.passes_over-requires-clause-high
+passes_over-requires-clause-high g t c =
+    subst (λ table. table.level < 5) (sym c.below-below.ensures) (omega (arith, c.requires.low, c.requires.high))
+
+pub remember-requires-clause-low : goal.remember-requires-clause-low
+remember-requires-clause-low g t c =
+    subst (λ table. 1 ≤ table.level) (sym c.below-below.ensures) (let low = c.in-Table.ensures.table tt in omega (arith, low))
+
+pub remember-requires-clause-high : goal.remember-requires-clause-high
+remember-requires-clause-high g t c =
+    subst (λ table. table.level < 5) (sym c.below-below.ensures) (omega (arith, c.requires.low, c.requires.high))
+
+pub maps_nothing-requires-clause-inside : goal.maps_nothing-requires-clause-inside
+maps_nothing-requires-clause-inside g t c =
+    let level = c.args.table.now.level in
+    let most = position_count g.L.LevelCount.LEVELS in
+    let more : level - 1 + 1 ≡ level = omega (arith, c.requires.low) in
+    let here : span level ≡ position_count (level - 1) = ap span (sym more) ∙ span_of_table (level - 1) in
+    let size : length c.as_slice-entries.result.now ≡ 512 = ap length c.as_slice-entries.ensures.words ∙ c.as_slice-entries.ensures.size in
+    let less : c.loop-entry.entry-index < 512 = omega (arith, c.loop-entry-test.true, size) in
+    let within = start_inside c.args.table.now.start c.loop-entry.entry-index (span level) most less c.requires.inside in
+    subst (λ table. table.start + position_count table.level ≤ most) (sym c.below-below.ensures)
+    (omega (arith, c.loop-entry.invariant.start, within, here))
+
+pub returns-in_err-visit-in-Page : goal.returns-in_err-visit-in-Page
+returns-in_err-visit-in-Page g t c = IfOk-from_err c.from_residual.result _ c.from_residual.ensures.0
+
+pub returns-in_err-visit_table-in-Table : goal.returns-in_err-visit_table-in-Table
+returns-in_err-visit_table-in-Table g t c =
+    IfOk-from_err c.from_residual-in_err-visit_table-in-Table.result _ c.from_residual-in_err-visit_table-in-Table.ensures.0
+
+pub returns-in_err-remember-in-Table : goal.returns-in_err-remember-in-Table
+returns-in_err-remember-in-Table g t c =
+    IfOk-from_err c.from_residual-in_err-remember-in-Table.result _ c.from_residual-in_err-remember-in-Table.ensures.0

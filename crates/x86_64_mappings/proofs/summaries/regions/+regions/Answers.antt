@@ -193,3 +193,49 @@ join_table-returns g t c =
     (ap (asked_on asked c.args.table.now.level c.args.table.now.start r) (take_all c.loop-entry.entry-index words c.loop-entry-test.false)
     ∙ sym (asked_table asked c.args.table.now.level c.args.table.now.start r c.args.table.now.frame words c.requires.low there size))
     c.loop-entry.invariant.joined
+
+-- ---- what the calls ask
+
+pub join_below-extent_of-requires-clause-high : goal.join_below-extent_of-requires-clause-high
+join_below-extent_of-requires-clause-high g t c = let five = g.L.LevelCount.at_most_five in omega (arith, c.requires.high, five)
+
+pub join_below-overflow_add-table : goal.join_below-overflow_add-table
+join_below-overflow_add-table g t c = let five = g.L.LevelCount.at_most_five in omega (arith, c.requires.high, five)
+
+pub join_below-region_from-region-requires-clause-some : goal.join_below-region_from-region-requires-clause-some
+join_below-region_from-region-requires-clause-some g t c =
+    let some : 0 < position_count c.args.table.now.level = pow_pos (12 + 9 * c.args.table.now.level) in
+    omega (arith, c.span.ensures, span_of_table c.args.table.now.level, some)
+
+pub join_below-region_from-region-requires-clause-inside : goal.join_below-region_from-region-requires-clause-inside
+join_below-region_from-region-requires-clause-inside g t c = omega (arith, c.span.ensures, span_of_table c.args.table.now.level, c.requires.inside)
+
+pub join_table-join_small_pages-requires-clause-size : goal.join_table-join_small_pages-requires-clause-size
+join_table-join_small_pages-requires-clause-size g t c = ap length c.as_slice-entries.ensures.words ∙ c.as_slice-entries.ensures.size
+
+pub join_table-join_small_pages-requires-clause-aligned : goal.join_table-join_small_pages-requires-clause-aligned
+join_table-join_small_pages-requires-clause-aligned g t c =
+    subst (λ level. c.args.table.now.start % position_count level ≡ 0) c.if-table-eq1.true c.requires.aligned
+
+pub join_table-join_small_pages-requires-clause-inside : goal.join_table-join_small_pages-requires-clause-inside
+join_table-join_small_pages-requires-clause-inside g t c =
+    subst (λ level. c.args.table.now.start + position_count level ≤ position_count g.L.LevelCount.LEVELS) c.if-table-eq1.true c.requires.inside
+
+pub join_table-of_page-page-requires-clause-inside : goal.join_table-of_page-page-requires-clause-inside
+join_table-of_page-page-requires-clause-inside g t c =
+    let level = c.args.table.now.level in
+    let some : 0 < span level = pow_pos (12 + 9 * (level - 1)) in
+    let size : length c.as_slice-entries.result.now ≡ 512 = ap length c.as_slice-entries.ensures.words ∙ c.as_slice-entries.ensures.size in
+    let less : c.loop-entry.entry-index < 512 = omega (arith, c.loop-entry-test.true, size) in
+    let within = start_inside c.args.table.now.start c.loop-entry.entry-index (span level) (position_count g.L.LevelCount.LEVELS) less
+    (omega (arith, count_span level c.requires.low, c.requires.inside)) in
+    omega (arith, c.loop-entry.invariant.start, within, some)
+
+pub join_table-join_page-requires : goal.join_table-join_page-requires
+join_table-join_page-requires g t c =
+    let most = position_count g.L.LevelCount.LEVELS in
+    let size : length c.as_slice-entries.result.now ≡ 512 = ap length c.as_slice-entries.ensures.words ∙ c.as_slice-entries.ensures.size in
+    let less : c.loop-entry.entry-index < 512 = omega (arith, c.loop-entry-test.true, size) in
+    let within = start_inside c.args.table.now.start c.loop-entry.entry-index (span c.args.table.now.level) most less
+    (omega (arith, count_span c.args.table.now.level c.requires.low, c.requires.inside)) in
+    subst (λ page. page.start + page.size ≤ most) (sym c.of_page-page.ensures) (omega (arith, c.loop-entry.invariant.start, within))
