@@ -1,8 +1,9 @@
-use Rattle.std.proofs.Common.{rules, ◌≡◌, ◌∙◌, ℕ, [], ◌∷◌, length, refl, sym, ap, subst, subst₂, arith}
+use Rattle.std.proofs.Common.{rules, ◌≡◌, ◌∙◌, ℕ, [], ◌∷◌, length, refl, sym, ap, ap₂, subst, subst₂, arith}
 use Rattle.std.proofs.lemmas.Result.{err_from_is_err_and}
 use Rattle.x86_64_model.specs.Hierarchy.{◌laid_in◌, Valid}
 use Rattle.x86_64_model.specs.Memory.{Memory, identity_places}
 use Rattle.x86_64_tables.specs.ActiveMemory.{memory_of}
+use Rattle.x86_64_tables.specs.FramePool.{FreeFrames}
 use Rattle.x86_64_mappers.specs.Layouts.{direct_at}
 use Rattle.x86_64_mappers.specs.Recursive.{ValidThrough}
 use Rattle.x86_64.specs.Calls.{to_call}
@@ -90,3 +91,35 @@ returns-in_err-calls-clause-unchanged g c =
 
 pub returns-in_err-calls-clause-twin : goal.returns-in_err-calls-clause-twin
 returns-in_err-calls-clause-twin g c = c.requires.twin
+
+pub returns-in_err-calls-clause-answered : goal.returns-in_err-calls-clause-answered
+returns-in_err-calls-clause-answered g c =
+    let e = err_from_is_err_and c.from_residual.result c.from_residual.ensures.1 in
+    rw e.1 tt
+
+pub returns-in_err-calls-clause-both : goal.returns-in_err-calls-clause-both
+returns-in_err-calls-clause-both g c =
+    let e = err_from_is_err_and c.from_residual.result c.from_residual.ensures.1 in
+    rw e.1 tt
+
+pub returns-in_err-replies-clause-answered : goal.returns-in_err-replies-clause-answered
+returns-in_err-replies-clause-answered g c =
+    let e = err_from_is_err_and c.from_residual-in_err-replies.result c.from_residual-in_err-replies.ensures.1 in
+    rw e.1 tt
+
+pub returns-in_err-replies-clause-both : goal.returns-in_err-replies-clause-both
+returns-in_err-replies-clause-both g c =
+    let e = err_from_is_err_and c.from_residual-in_err-replies.result c.from_residual-in_err-replies.ensures.1 in
+    rw e.1 tt
+
+pub returns-in_err-replies-clause-unchanged : goal.returns-in_err-replies-clause-unchanged
+returns-in_err-replies-clause-unchanged g c =
+    let e = err_from_is_err_and c.from_residual-in_err-replies.result c.from_residual-in_err-replies.ensures.1 in
+    let same = c.in_err-replies.ensures.refused in
+    let second : memory_of c.new_unchecked-recursive.result.active ≡ c.args.twin.now.memory = ap memory_of c.new_unchecked-recursive.ensures.active ∙ c.new-active.ensures.memory in
+    rw e.1 (
+      ap₂ (λ (m : Memory) (pool : FreeFrames). record { memory = m; pool = pool }) (c.drop-direct.ensures.memory ∙ ap
+          (λ direct. direct.memory.now) same.1 ∙ c.new-direct.ensures.memory) same.2,
+      ap₂ (λ (m : Memory) (pool : FreeFrames). record { memory = m; pool = pool }) (search rules ∙ ap
+          (λ recursive. memory_of recursive.active) same.3 ∙ second) same.4,
+    )

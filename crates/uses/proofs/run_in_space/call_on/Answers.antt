@@ -1,9 +1,66 @@
-use Rattle.std.proofs.Common.{rules}
+use Rattle.std.proofs.Common.{rules, ◌≡◌, ◌∙◌, sym, ap, subst}
+use Rattle.x86_64_mappers.specs.Layouts.{direct_at}
 use Rattle.x86_64_model.proofs.Lemmas.Machines.Giving.{giving_from}
+use Rattle.x86_64_model.specs.Hierarchy.{◌laid_in◌}
+use Rattle.x86_64_model.specs.Layout.{Layout}
+use Rattle.x86_64_model.specs.Memory.{Memory}
+use Rattle.x86_64_model.specs.Store.{Store, StoreFits}
 use Rattle.x86_64.specs.Calls.{to_call}
+use Rattle.x86_64.specs.Runs.{LeavesFree, Stepped}
 use Rattle.x86_64.proofs.AskedCalls.{is_call}
 use Rattle.uses.proofs.SpaceRuns.{after_call}
 use Rattle.uses.proofs.run_in_space.call_on.Goals as goal
+
+-- what holds of a layout and a memory holds of those that they are
+moved : (P : Layout → Memory → Type 0) → {l k : Layout} → {m n : Memory} → l ≡ k → m ≡ n → P l m → P k n
+moved P {k = k} {m = m} layout memory one = subst (P k) memory (subst (λ l. P l m) layout one)
+
+pub run_call-requires : goal.run_call-requires
+run_call-requires g c =
+    let store : Store = record {
+      frames = g.F.FrameAllocator.supply c.args.frames.now;
+      serves = g.F.FrameKeeper.serves c.args.frames.now;
+      take_back = g.F.FrameDeallocator.take_back;
+    } in
+    moved (λ l m. StoreFits (l laid_in m) store) (sym c.new-mapper.ensures.layout) (sym c.new-mapper.ensures.memory) c.requires
+
+pub returns-clause-step : goal.returns-clause-step
+returns-clause-step g c =
+    let one = direct_at g.L.LevelCount.LEVELS (g.P.PageTableFrameMapping.places c.args.mapping) c.args.root in
+    let store : Store = record {
+      frames = g.F.FrameAllocator.supply c.args.frames.now;
+      serves = g.F.FrameKeeper.serves c.args.frames.now;
+      take_back = g.F.FrameDeallocator.take_back;
+    } in
+    let call = to_call g.L.LevelCount.LEVELS g.P5.LevelFiveFlags.bits c.args.call in
+    let rest = g.F.FrameAllocator.supply c.run_call.new.frames in
+    let ran = c.run_call.ensures in
+    let named = sym (ap (λ l. l.0.0) (ran.keeps.lent ∙ c.new-mapper.ensures.lent)) in
+    let before = g.T.TableMemory.tables c.args.memory.now in
+    let after = g.T.TableMemory.tables c.run_call.new.mapper.memory.now in
+    subst (λ end. Stepped (one laid_in before) store call c.run_call.result (one laid_in g.T.TableMemory.tables end) rest) (sym (search
+    (rules, named)))
+    (subst (λ n. Stepped (one laid_in before) store call c.run_call.result (one laid_in n) rest) (sym c.drop-mapper.ensures.memory)
+    (moved (λ l m. Stepped (l laid_in m) store call c.run_call.result (l laid_in after) rest) c.new-mapper.ensures.layout
+    c.new-mapper.ensures.memory ran.step))
+
+pub returns-clause-free : goal.returns-clause-free
+returns-clause-free g c =
+    let one = direct_at g.L.LevelCount.LEVELS (g.P.PageTableFrameMapping.places c.args.mapping) c.args.root in
+    let store : Store = record {
+      frames = g.F.FrameAllocator.supply c.args.frames.now;
+      serves = g.F.FrameKeeper.serves c.args.frames.now;
+      take_back = g.F.FrameDeallocator.take_back;
+    } in
+    let call = to_call g.L.LevelCount.LEVELS g.P5.LevelFiveFlags.bits c.args.call in
+    let rest = g.F.FrameAllocator.supply c.run_call.new.frames in
+    let ran = c.run_call.ensures in
+    let named = sym (ap (λ l. l.0.0) (ran.keeps.lent ∙ c.new-mapper.ensures.lent)) in
+    let before = g.T.TableMemory.tables c.args.memory.now in
+    let after = g.T.TableMemory.tables c.run_call.new.mapper.memory.now in
+    subst (λ end. LeavesFree (one laid_in before) store call (one laid_in g.T.TableMemory.tables end) rest) (sym (search (rules, named)))
+    (subst (λ n. LeavesFree (one laid_in before) store call (one laid_in n) rest) (sym c.drop-mapper.ensures.memory)
+    (moved (λ l m. LeavesFree (l laid_in m) store call (l laid_in after) rest) c.new-mapper.ensures.layout c.new-mapper.ensures.memory ran.free))
 
 pub returns-clause-beside : goal.returns-clause-beside
 returns-clause-beside g c =

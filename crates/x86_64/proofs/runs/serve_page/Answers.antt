@@ -1,7 +1,8 @@
-use Rattle.std.proofs.Common.{◌≤◌, refl, sym, ◌∙◌, subst, lit≤, arith}
+use Rattle.std.proofs.Common.{◌≡◌, ◌≤◌, ◌&&◌, Bool, true, false, refl, sym, ◌∙◌, subst, lit≤, arith}
 use Rattle.x86_64_model.proofs.Lemmas.Machines.Fitting.{ready_of_fits}
 use Rattle.x86_64_model.proofs.Lemmas.Machines.Giving.{giving_from}
 use Rattle.x86_64_model.specs.Call.{SetFlags}
+use Rattle.x86_64_model.specs.Hierarchy.{allows}
 use Rattle.x86_64_tables.specs.PageTableFlags.{bits_of}
 use Rattle.x86_64.specs.Calls.{page_call}
 use Rattle.x86_64.specs.private.Served.{SetsFlags}
@@ -161,3 +162,67 @@ returns-clause-room g c =
       | in-SetFlagsP2 w ↦ rw w.tokens-is w.set_flags-in-SetFlagsP2.ensures.room
       | in-TranslatePage w ↦ rw w.tokens-is (g.K.Tokens.fewer c.args.tokens.now)
     ]
+
+pub is_allowed-requires : goal.is_allowed-requires
+is_allowed-requires g c = c.requires.fits.valid
+
+pub take-requires : goal.take-requires
+take-requires g c = c.requires.room
+
+pub take-requires-in-MapToWithTableFlags : goal.take-requires-in-MapToWithTableFlags
+take-requires-in-MapToWithTableFlags g c = c.requires.room
+
+pub take-requires-in-IdentityMap : goal.take-requires-in-IdentityMap
+take-requires-in-IdentityMap g c = c.requires.room
+
+pub take_unmapped-requires : goal.take_unmapped-requires
+take_unmapped-requires g c = c.requires.room
+
+pub take-requires-in-UpdateFlags : goal.take-requires-in-UpdateFlags
+take-requires-in-UpdateFlags g c = c.requires.room
+
+pub set_flags-requires-clause-room : goal.set_flags-requires-clause-room
+set_flags-requires-clause-room g c = c.requires.room
+
+pub set_flags-requires-in-SetFlagsP4-clause-room : goal.set_flags-requires-in-SetFlagsP4-clause-room
+set_flags-requires-in-SetFlagsP4-clause-room g c = c.requires.room
+
+pub set_flags-requires-in-SetFlagsP3-clause-room : goal.set_flags-requires-in-SetFlagsP3-clause-room
+set_flags-requires-in-SetFlagsP3-clause-room g c = c.requires.room
+
+pub set_flags-requires-in-SetFlagsP2-clause-room : goal.set_flags-requires-in-SetFlagsP2-clause-room
+set_flags-requires-in-SetFlagsP2-clause-room g c = c.requires.room
+
+pub set_flags-requires-clause-may : goal.set_flags-requires-clause-may
+set_flags-requires-clause-may g c =
+    let allowed = rw c.in-SetFlagsP5.is at (sym c.is_allowed.ensures ∙ c.if-not-is_allowed.false) in
+    let h = g.M.Tables.hierarchy c.args.mapper.now in
+    record {
+      valid = c.requires.fits.valid;
+      allowed = subst (λ given. allows h (SetFlags 5 g.S.PageSize.LEVEL c.in-SetFlagsP5.page given) ≡ true) (sym
+          c.page_table_flags.ensures.some) allowed;
+    }
+
+pub set_flags-requires-clause-high : goal.set_flags-requires-clause-high
+set_flags-requires-clause-high g c = subst (λ n. 5 ≤ n) (sym (g.met.P5.LevelFiveFlags.five c.in-SetFlagsP5.flags)) (lit≤ tt)
+
+pub set_flags-requires-in-SetFlagsP4-clause-high : goal.set_flags-requires-in-SetFlagsP4-clause-high
+set_flags-requires-in-SetFlagsP4-clause-high g c = g.L.LevelCount.at_least_four
+
+second_too : (a b : Bool) → (a && b) ≡ true → b ≡ true
+second_too true b both = both
+second_too false b both = cc
+
+pub identity_map-requires-clause-may : goal.identity_map-requires-clause-may
+identity_map-requires-clause-may g c =
+    let h = g.M.Tables.hierarchy c.args.mapper.now in
+    record {
+      fits = ready_of_fits h.layout h.memory _ _ c.requires.fits;
+      allowed = second_too _ _ (rw c.in-IdentityMap.is at (sym c.is_allowed.ensures ∙ c.if-not-is_allowed.false));
+    }
+
+pub returns-then-not-is_allowed-clause-still : goal.returns-then-not-is_allowed-clause-still
+returns-then-not-is_allowed-clause-still g c = λ same. refl
+
+pub returns-then-not-is_allowed-clause-room : goal.returns-then-not-is_allowed-clause-room
+returns-then-not-is_allowed-clause-room g c = g.K.Tokens.fewer c.args.tokens.now
