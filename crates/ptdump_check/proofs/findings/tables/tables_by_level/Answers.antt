@@ -1,5 +1,5 @@
-use Rattle.std.proofs.Common.{◌≡◌, ◌∙◌, ◌+◌, ◌<◌, ◌++◌, ℕ, List, Vec, ◌∷◌, map, drop, get_or, length, sym, ap, append_assoc, arith}
-use Rattle.std.proofs.lemmas.List.{drop_more}
+use Rattle.std.proofs.Common.{◌≡◌, ◌∙◌, ◌+◌, ◌<◌, ◌++◌, ℕ, List, Vec, ◌∷◌, map, drop, get_or, length, sym, ap, append-nil, append_assoc, arith}
+use Rattle.std.proofs.lemmas.List.{drop_all, drop_more}
 use Rattle.x86_64_dump.specs.Loaded.{frames_of}
 use Rattle.ptdump_check.specs.Findings.{tables_from_level}
 use Rattle.ptdump_check.specs.declared.findings.entry.Table.{Table}
@@ -22,3 +22,9 @@ loop-of_level-preserved c =
       level_more c.loop-of_level.tables.items c.add_tables.new.tables.items c.args.frames.now c.of_level-item.result c.loop-of_level.of_level-index n c.loop-of_level-test.true c.of_level-item.is
           (c.in_ok-add_tables.ensures ∙ ap (λ fs. c.loop-of_level.tables.items ++ map (λ f. record { frame = f; level = n + 1 }) fs) c.deref.ensures.value) ∙ c.loop-of_level.invariant.1,
     )
+
+pub returns : goal.returns
+returns c =
+    let items = c.loop-of_level.tables.items in
+    sym (append-nil items) ∙ ap (λ levels. items ++ tables_from_level (c.loop-of_level.level + 1) (frames_of levels))
+    (sym (drop_all c.loop-of_level.of_level-index c.args.frames.now c.loop-of_level-test.false)) ∙ c.loop-of_level.invariant.1
