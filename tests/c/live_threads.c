@@ -310,18 +310,19 @@ static uint64_t split_and_join(uint64_t *looked) {
     return lost;
 }
 
-static uint64_t split_beside_writes(uint64_t rounds) {
+/* Splits and joins the page at least so often, and until enough writes were looked at. Returns how many of these were lost. */
+static uint64_t split_beside_writes(uint64_t least) {
     pthread_t thread;
-    uint64_t lost = 0, looked = 0;
+    uint64_t splits = 0, lost = 0, looked = 0;
     fill(4);
     begun = ended = 0;
     set_flag(&is_over, 0);
     begin(&thread, write_large, NULL);
-    for (uint64_t n = 0; n < rounds; n++)
+    for (; splits < least || looked < MEETINGS; splits++)
         lost += split_and_join(&looked);
     set_flag(&is_over, 1);
     pthread_join(thread, NULL);
-    printf("splits and joins: %" PRIu64 " beside %" PRIu64 " writes: of %" PRIu64 " that were looked at %" PRIu64 " lost\n", rounds, ended, looked, lost);
+    printf("splits and joins: %" PRIu64 " beside %" PRIu64 " writes: of %" PRIu64 " that were looked at %" PRIu64 " lost\n", splits, ended, looked, lost);
     CHECK(fits());
     return lost;
 }
@@ -344,30 +345,32 @@ static bool agrees(uint32_t status, uint64_t word) {
     return status == (word & X64_PRESENT ? X64_OK : X64_NOT_MAPPED);
 }
 
-/* Reads an entry while another thread exchanges it. x64_entries may load it twice, so what it says needn't belong together. */
+/* Reads an entry while another thread exchanges it, until both words were read often enough. x64_entries may load it twice, so what it says needn't
+ * belong together. */
 static void read_beside_exchanges(uint64_t page, uint64_t size) {
     pthread_t thread;
     x64_entry entry = {1, space.root, 0, 0}, entries[X64_MOST_LEVELS], found = entry;
     size_t count = 0;
-    uint64_t plain = 0, live = 0, finds = 0;
+    uint64_t reads = 0, present = 0, plain = 0, live = 0, finds = 0;
     fill(4);
     CHECK(x64_space_find_page(&space, page, size, &entry) == X64_OK);
     set_flag(&is_over, 0);
     begin(&thread, exchange_one, &entry);
     x64_hierarchy hierarchy = x64_space_hierarchy(&space);
-    for (uint64_t n = 0; n < operations / 4; n++) {
+    for (; reads < operations / 4 || present < MEETINGS || reads - present < MEETINGS; reads++) {
         uint32_t status = x64_entries(&hierarchy, tables, TABLES, page, entries, X64_MOST_LEVELS, &count);
         plain += !agrees(status, entries[count - 1].word);
         status = x64_entries_live(&hierarchy, tables, TABLES, page, entries, &count);
         live += !agrees(status, entries[count - 1].word);
+        present += status == X64_OK;
         status = x64_space_find_entry(&space, page, &found);
         finds += !agrees(status, found.word) || found.level != entry.level;
     }
     set_flag(&is_over, 1);
     pthread_join(thread, NULL);
-    printf("reads of a word of level %" PRIu64 " that is exchanged: of %" PRIu64 " don't agree with their status: %" PRIu64
-           " by x64_entries, %" PRIu64 " by x64_entries_live, %" PRIu64 " by x64_space_find_entry\n",
-           entry.level, operations / 4, plain, live, finds);
+    printf("reads of a word of level %" PRIu64 " that is exchanged: of %" PRIu64 ", which found it present %" PRIu64
+           " times, don't agree with their status: %" PRIu64 " by x64_entries, %" PRIu64 " by x64_entries_live, %" PRIu64 " by x64_space_find_entry\n",
+           entry.level, reads, present, plain, live, finds);
     CHECK(live == 0 && finds == 0);
 }
 
