@@ -1,4 +1,4 @@
-use Rattle.std.proofs.Common.{rules, ◌≡◌, ◌∙◌, ℕ, List, true, false, Some, refl, sym, ap, subst}
+use Rattle.std.proofs.Common.{rules, ◌≡◌, ◌∙◌, ℕ, List, true, false, Some, refl, sym, ap, subst, subst₂}
 use Rattle.uses.specs.Owned.{hierarchy}
 use Rattle.x86_64_mappers.specs.Layouts.{direct}
 use Rattle.x86_64_mappers.specs.PageAnswers.{allows_page}
@@ -9,10 +9,6 @@ use Rattle.x86_64_model.specs.Memory.{Memory, identity_places}
 use Rattle.x86_64_model.specs.Refusal.{Done}
 use Rattle.x86_64_tables.specs.PageTableFlags.{bits_of}
 use Rattle.uses.proofs.own_memory.map_in.Goals as goal
-
--- what holds of a layout and a memory holds of those that they are
-moved : (P : Layout → Memory → Type 0) → {l k : Layout} → {m n : Memory} → l ≡ k → m ≡ n → P l m → P k n
-moved P {k = k} {m = m} layout memory one = subst (P k) memory (subst (λ l. P l m) layout one)
 
 -- a map to the frame leads from a layout and a memory, and from these free frames, to those
 abbrev Leads : (frame : ℕ) → Call → (free : List ℕ) → Layout → Memory → Layout → Memory → (rest : List ℕ) → Type 0
@@ -30,7 +26,7 @@ returns-then-not-map_allowed-clause-allowed g c =
     let mapper = c.new-mapper.result in
     let h = direct identity_places mapper.root laid_in g.T.TableMemory.tables mapper.memory.now in
     let call = MapTo 1 c.args.page c.args.frame (bits_of c.args.flags) in
-    moved (λ l m. false ≡ allows (l laid_in m) call) c.new-mapper.ensures.layout c.new-mapper.ensures.memory
+    subst₂ (λ (l : Layout) (m : Memory). false ≡ allows (l laid_in m) call) c.new-mapper.ensures.layout c.new-mapper.ensures.memory
     (subst (λ more. false ≡ allows_page h 1 c.args.page (bits_of c.args.flags) more) c.parent_flags.ensures c.if-not-map_allowed.ensures)
 
 pub returns-then-not-map_allowed-clause-does : goal.returns-then-not-map_allowed-clause-does
@@ -46,7 +42,8 @@ map_to-requires g c =
     let h = direct identity_places mapper.root laid_in g.T.TableMemory.tables mapper.memory.now in
     let supply = c.args.pool.now.frames in
     record {
-      fits = moved (λ l m. SupplyFits (l laid_in m) supply) (sym c.new-mapper.ensures.layout) (sym c.new-mapper.ensures.memory) c.requires;
+      fits = subst₂ (λ (l : Layout) (m : Memory). SupplyFits (l laid_in m) supply) (sym c.new-mapper.ensures.layout)
+          (sym c.new-mapper.ensures.memory) c.requires;
       allowed = sym
           (subst (λ more. true ≡ allows_page h 1 c.args.page (bits_of c.args.flags) more) c.parent_flags.ensures c.if-not-map_allowed.ensures);
     }
@@ -78,7 +75,7 @@ returns-clause-allowed g c =
     let mapper = c.new-mapper.result in
     let h = direct identity_places mapper.root laid_in g.T.TableMemory.tables mapper.memory.now in
     let call = MapTo 1 c.args.page c.args.frame (bits_of c.args.flags) in
-    moved (λ l m. true ≡ allows (l laid_in m) call) c.new-mapper.ensures.layout c.new-mapper.ensures.memory
+    subst₂ (λ (l : Layout) (m : Memory). true ≡ allows (l laid_in m) call) c.new-mapper.ensures.layout c.new-mapper.ensures.memory
     (subst (λ more. true ≡ allows_page h 1 c.args.page (bits_of c.args.flags) more) c.parent_flags.ensures c.if-not-map_allowed.ensures)
 
 pub returns-clause-does : goal.returns-clause-does
@@ -96,7 +93,7 @@ returns-clause-does g c allowed =
     subst (λ n. outcome ≡ Some (record { paths = paths (hierarchy c.args.root n); supply = rest; answer = Done c.args.frame }))
     (sym (◌∙◌ {b = dropped} (search (rules, named)) c.drop-mapper-2.ensures.memory))
     (subst (λ k. leads one before k after rest) (step.keeps.layout ∙ c.new-mapper.ensures.layout)
-    (moved (λ l m. leads l m left after rest) c.new-mapper.ensures.layout c.new-mapper.ensures.memory step.outcome))
+    (subst₂ (λ (l : Layout) (m : Memory). leads l m left after rest) c.new-mapper.ensures.layout c.new-mapper.ensures.memory step.outcome))
 
 pub returns-clause-arrives : goal.returns-clause-arrives
 returns-clause-arrives g c mapped is_present =

@@ -1,4 +1,4 @@
-use Rattle.std.proofs.Common.{rules, ◌≡◌, ◌∙◌, sym, ap, subst}
+use Rattle.std.proofs.Common.{rules, ◌≡◌, ◌∙◌, sym, ap, subst, subst₂}
 use Rattle.x86_64_mappers.specs.Layouts.{direct_at}
 use Rattle.x86_64_model.proofs.Lemmas.Machines.Giving.{giving_from}
 use Rattle.x86_64_model.specs.Hierarchy.{◌laid_in◌}
@@ -11,10 +11,6 @@ use Rattle.x86_64.proofs.AskedCalls.{is_call}
 use Rattle.uses.proofs.SpaceRuns.{after_call}
 use Rattle.uses.proofs.run_in_space.call_on.Goals as goal
 
--- what holds of a layout and a memory holds of those that they are
-moved : (P : Layout → Memory → Type 0) → {l k : Layout} → {m n : Memory} → l ≡ k → m ≡ n → P l m → P k n
-moved P {k = k} {m = m} layout memory one = subst (P k) memory (subst (λ l. P l m) layout one)
-
 pub run_call-requires : goal.run_call-requires
 run_call-requires g c =
     let store : Store = record {
@@ -22,7 +18,8 @@ run_call-requires g c =
       serves = g.F.FrameKeeper.serves c.args.frames.now;
       take_back = g.F.FrameDeallocator.take_back;
     } in
-    moved (λ l m. StoreFits (l laid_in m) store) (sym c.new-mapper.ensures.layout) (sym c.new-mapper.ensures.memory) c.requires
+    subst₂ (λ (l : Layout) (m : Memory). StoreFits (l laid_in m) store) (sym c.new-mapper.ensures.layout)
+    (sym c.new-mapper.ensures.memory) c.requires
 
 pub returns-clause-step : goal.returns-clause-step
 returns-clause-step g c =
@@ -41,7 +38,7 @@ returns-clause-step g c =
     subst (λ end. Stepped (one laid_in before) store call c.run_call.result (one laid_in g.T.TableMemory.tables end) rest) (sym (search
     (rules, named)))
     (subst (λ n. Stepped (one laid_in before) store call c.run_call.result (one laid_in n) rest) (sym c.drop-mapper.ensures.memory)
-    (moved (λ l m. Stepped (l laid_in m) store call c.run_call.result (l laid_in after) rest) c.new-mapper.ensures.layout
+    (subst₂ (λ (l : Layout) (m : Memory). Stepped (l laid_in m) store call c.run_call.result (l laid_in after) rest) c.new-mapper.ensures.layout
     c.new-mapper.ensures.memory ran.step))
 
 pub returns-clause-free : goal.returns-clause-free
@@ -60,7 +57,8 @@ returns-clause-free g c =
     let after = g.T.TableMemory.tables c.run_call.new.mapper.memory.now in
     subst (λ end. LeavesFree (one laid_in before) store call (one laid_in g.T.TableMemory.tables end) rest) (sym (search (rules, named)))
     (subst (λ n. LeavesFree (one laid_in before) store call (one laid_in n) rest) (sym c.drop-mapper.ensures.memory)
-    (moved (λ l m. LeavesFree (l laid_in m) store call (l laid_in after) rest) c.new-mapper.ensures.layout c.new-mapper.ensures.memory ran.free))
+    (subst₂ (λ (l : Layout) (m : Memory). LeavesFree (l laid_in m) store call (l laid_in after) rest) c.new-mapper.ensures.layout
+    c.new-mapper.ensures.memory ran.free))
 
 pub returns-clause-beside : goal.returns-clause-beside
 returns-clause-beside g c =
