@@ -1,4 +1,4 @@
-use Rattle.std.proofs.Common.{arith, ◌≡◌, ◌⊎◌, inl, inr, ⊎_elim, ◌∙◌, ℕ, Bool, true, false, ◌||◌, ◌==◌, List, [], ◌∷◌, length, refl, sym, subst}
+use Rattle.std.proofs.Common.{arith, ◌≡◌, ◌⊎◌, inl, inr, ◌∙◌, ℕ, Bool, true, false, ◌==◌, List, [], ◌∷◌, length, refl, sym, subst}
 use Rattle.std.proofs.lemmas.Bool.Decides.{nat_tests}
 use Rattle.x86_64_tables.specs.FrameSegments.{are_in_order, segment_places}
 use Rattle.x86_64_tables.specs.Shifted.{shifted_places}
@@ -8,11 +8,9 @@ use Rattle.x86_64_c.specs.Arguments.{places_by}
 use Rattle.x86_64_c.specs.Validity.{TellsWhether}
 use Rattle.x86_64_c.specs.PoolCalls.{Loan, loan}
 use Rattle.x86_64_c.specs.declared.arguments.Hierarchy.{Hierarchy}
+use Rattle.x86_64_c.proofs.ArgumentsGiven.{right_levels}
 use Rattle.x86_64_c.proofs.address_spaces.x64_spaces_fit_in.Goals as goal
 use Rattle.x86_64_c.proofs.address_spaces.x64_spaces_fit_in.Goals.{else-levels-ne4-via-then-levels-ne4+else-levels-ne5, else-levels-ne4-via-else-levels-ne4}
-
-right_levels : (levels : ℕ) → (levels ≡ 4) ⊎ (levels ≡ 5) → ((levels == 4) || (levels == 5)) ≡ true
-right_levels levels which = ⊎_elim (λ four. rw four refl) (λ five. rw five refl) which
 
 -- with a right number of levels and right segments only the room and the indices can be wrong
 but_room : (h : Hierarchy) (from to : ℕ) (lent : Loan) (marks : ℕ) → (h.levels ≡ 4) ⊎ (h.levels ≡ 5) → are_in_order h.segments.now ≡ true

@@ -1,4 +1,4 @@
-use Rattle.std.proofs.Common.{◌≡◌, ◌⊎◌, ⊎_elim, ◌∙◌, ℕ, true, ◌||◌, ◌==◌, List, length, Option, None, Result, Ok, Err, IfOk, OnErr, refl, rules, ap, sym, subst, subst₂}
+use Rattle.std.proofs.Common.{◌≡◌, ◌⊎◌, ◌∙◌, ℕ, true, List, length, Option, None, Result, Ok, Err, IfOk, OnErr, refl, rules, ap, sym, subst, subst₂}
 use Rattle.std.specs.FinMap.{len}
 use Rattle.x86_64_model.specs.Memory.{Memory, Places}
 use Rattle.x86_64_tables.specs.FrameSegments.{are_in_order}
@@ -7,11 +7,8 @@ use Rattle.x86_64_mappers.specs.Layouts.{owned_at}
 use Rattle.x86_64_c.specs.Arguments.{bad_hierarchy, hierarchy_in, places_given, wrong_root}
 use Rattle.x86_64_c.specs.declared.arguments.Hierarchy.{Hierarchy}
 use Rattle.x86_64_c.specs.private.Operations.{wrong_call}
-use Rattle.x86_64_c.proofs.ArgumentsGiven.{counted, kept}
+use Rattle.x86_64_c.proofs.ArgumentsGiven.{counted, kept, right_levels}
 use Rattle.x86_64_c.proofs.operation.enter_by.Goals as goal
-
-right_levels : (levels : ℕ) → (levels ≡ 4) ⊎ (levels ≡ 5) → ((levels == 4) || (levels == 5)) ≡ true
-right_levels levels which = ⊎_elim (λ four. rw four refl) (λ five. rw five refl) which
 
 -- with a right number of levels and right segments only the root can be wrong
 but_root : (h : Hierarchy) (n : ℕ) → (h.levels ≡ 4) ⊎ (h.levels ≡ 5) → are_in_order h.segments.now ≡ true

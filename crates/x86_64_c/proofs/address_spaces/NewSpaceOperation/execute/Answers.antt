@@ -1,6 +1,5 @@
 use Rattle.std.proofs.Common.{arith, ◌≡◌, ◌≤◌, ◌<◌, ◌+◌, ◌-◌, ◌∙◌, ℕ, Bool, true, false, List, length, get_or, Option, Some, None, IfSome, refl, ap, subst}
 use Rattle.std.specs.Prelude.{slice_get}
-use Rattle.std.proofs.lemmas.Bool.{le-leb}
 use Rattle.std.proofs.lemmas.Result.{err_from_is_err_and}
 use Rattle.x86_64_model.specs.Hierarchy.{Hierarchy}
 use Rattle.x86_64_spaces.specs.SpaceCalls.{TakesFirst, IsMade}
@@ -11,12 +10,8 @@ use Rattle.x86_64_c.specs.AddressSpaces.{space_at, wrong_indices}
 use Rattle.x86_64_c.specs.Arguments.{at}
 use Rattle.x86_64_c.specs.private.Pools.{Leaves}
 use Rattle.x86_64_c.specs.private.Spaces.{MakesRoot}
-use Rattle.x86_64_c.specs.PoolCalls.{bad_pool}
+use Rattle.x86_64_c.proofs.ArgumentsGiven.{with_room}
 use Rattle.x86_64_c.proofs.address_spaces.NewSpaceOperation.execute.Goals as goal
-
--- with room for the free frames only what else is asked can be wrong
-with_room : (free capacity : ℕ) (other : Option ℕ) → free ≤ capacity → bad_pool free capacity other ≡ other
-with_room free capacity other room = rw (le-leb free capacity room) refl
 
 not_empty : (array : List ℕ) (free : ℕ) → free ≤ length array → 0 < free → None ≡ slice_get (stacked array free) 0 → ⊥
 not_empty array free within some none =

@@ -1,13 +1,9 @@
 use Rattle.std.proofs.Common.{◌≡◌, ◌≤◌, ◌∙◌, ℕ, length, Option, Some, None, Result, IfOk, IfErr, refl, sym, subst}
-use Rattle.std.proofs.lemmas.Bool.{le-leb}
 use Rattle.std.proofs.lemmas.Result.{err_from_is_err_and}
 use Rattle.x86_64_c.specs.PoolCalls.{bad_pool}
 use Rattle.x86_64_c.specs.Ranges.{bad_maps}
+use Rattle.x86_64_c.proofs.ArgumentsGiven.{with_room}
 use Rattle.x86_64_c.proofs.ranges.MapFromOperation.execute.Goals as goal
-
--- with room for the free frames only what else is asked can be wrong
-with_room : (free capacity : ℕ) (other : Option ℕ) → free ≤ capacity → bad_pool free capacity other ≡ other
-with_room free capacity other room = rw (le-leb free capacity room) refl
 
 bad_told : {X : Type 0} (free capacity : ℕ) (other : Option ℕ) (result : Result X ℕ) → free ≤ capacity → IfErr result (λ status. other ≡ Some status)
     → IfErr result (λ status. bad_pool free capacity other ≡ Some status)

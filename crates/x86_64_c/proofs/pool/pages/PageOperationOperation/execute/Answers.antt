@@ -1,14 +1,10 @@
 use Rattle.std.proofs.Common.{◌≡◌, ◌≤◌, ◌∙◌, ℕ, Option, None, length, refl, sym}
 use Rattle.std.specs.Option.{option_or}
-use Rattle.std.proofs.lemmas.Bool.{le-leb}
 use Rattle.std.proofs.lemmas.Result.{err_from_is_err_and}
 use Rattle.x86_64_c.specs.Arguments.{wrong_page}
 use Rattle.x86_64_c.specs.PoolCalls.{bad_pool}
+use Rattle.x86_64_c.proofs.ArgumentsGiven.{with_room}
 use Rattle.x86_64_c.proofs.pool.pages.PageOperationOperation.execute.Goals as goal
-
--- with room for the free frames only what else is asked can be wrong
-with_room : (free capacity : ℕ) (other : Option ℕ) → free ≤ capacity → bad_pool free capacity other ≡ other
-with_room free capacity other room = rw (le-leb free capacity room) refl
 
 -- with a right page, too, only what a step asks can be wrong
 step_alone : (free capacity : ℕ) (page step : Option ℕ) → free ≤ capacity → page ≡ None → bad_pool free capacity (option_or page step) ≡ step
